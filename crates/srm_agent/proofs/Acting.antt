@@ -56,7 +56,7 @@ out_of r = r.outgoing.out
 abbrev pub noted_of : DueSessionMessage → Datagram
 noted_of r = r.outgoing.noted
 
--- want of memory: there is room in the bucket, the timers stay, and no word was used
+-- out of memory: there is room in the bucket, the timers stay, and no random number was consumed
 pub tick_stays : {W : Type 0} (a b d : AgentContent W) → b ≡ record a { bucket = b.bucket } → BucketStays a.bucket b.bucket → d ≡ record b { timers = d.timers; words = d.words }
     → TimersStay b.timers d.timers → d.words ≡ b.words → AgentStays a d
 tick_stays a b d room bucket rest timers words = record {

@@ -1,4 +1,4 @@
--- An agent that did nothing yet: what its parts must fit, so that it fits.
+-- A new agent fits the empty run if its parts do.
 use Rattle.std.proofs.Common.{◌≡◌, ℕ, ◌+◌, max, List, [], ◌∷◌, refl, ◌∙◌, subst, arith}
 use Rattle.srm_names.specs.Names.{first_page}
 use Rattle.srm_store.specs.Fits.{StoreFits}

@@ -396,7 +396,7 @@ draw_unslotted next_word a b now moment page body name x fine some same full is 
     let long = full (held past) (evidence_in past) (settlings past) h.store in
     absurd (false≢true (sym short ∙ ap (λ (n : FullName). outgrow (held past) (evidence_in past) (n.stream.page ∷ [])) (sym named_so) ∙ long))))
 
--- after room was made, the agent fits what it fitted
+-- after room was made, the agent still fits
 roomy_fits : {W : Type 0} (a b : AgentContent W) → b ≡ record a { store = b.store; bucket = b.bucket } → StoreStays a.store b.store → BucketStays a.bucket b.bucket
     → (c : Config) (made : ℕ) (past : List Entry) → AgentFits c made past a → AgentFits c made past b
 roomy_fits a b is still stays c made past h =

@@ -1,4 +1,4 @@
--- What an agent fits is a run of its member; and what it still fits with other parts.
+-- What an agent fits is a run of its member, and it still fits with other parts that fit.
 use Rattle.std.proofs.Common.{ℕ, List, subst}
 use Rattle.srm_store.specs.Fits.{StoreFits}
 use Rattle.srm_store.specs.Stores.{StoreContent}
@@ -23,7 +23,7 @@ fits_run c made past a h = record {
   bucket = (h.bucket.goings, h.bucket.entries, h.bucket.goes, subst (BucketLaw c.rate c.depth) h.bucket.read (law-read datagram_of c.rate c.depth h.bucket.calls h.bucket.fits.law));
 }
 
--- a store, timers and a bucket that fit the run in place of those that it has, and whatever words come next
+-- an agent with another store, timers and bucket that fit the run, and with any random numbers
 pub refit : {W : Type 0} (c : Config) (made : ℕ) (past : List Entry) (a : AgentContent W) (s : StoreContent) (t : TimersContent) (k : BucketContent Outgoing) (w : W)
     → AgentFits c made past a → StoreFits (held past) (evidence_in past) (settlings past) s → TimersFit c past t → BucketFitsPast c past k → AgentFits c made past (record a { store = s; timers = t; bucket = k; words = w })
 refit c made past a s t k w h stores timers bucket = record {
@@ -43,6 +43,6 @@ refit c made past a s t k w h stores timers bucket = record {
   spelled = h.spelled;
 }
 
--- the bucket fits what it fitted
+-- the bucket still fits
 pub roomy : (c : Config) (past : List Entry) (old new : BucketContent Outgoing) → BucketStays old new → BucketFitsPast c past old → BucketFitsPast c past new
 roomy c past old new stays h = record { goings = h.goings; entries = h.entries; goes = h.goes; calls = h.calls; read = h.read; fits = stays.fits c.rate c.depth h.calls h.fits }

@@ -1,4 +1,4 @@
--- An agent after an entry in which a datagram was heard and accepted.
+-- An agent after it heard and accepted a datagram.
 use Rattle.std.proofs.Common.{◌≡◌, ℕ, ◌≤◌, ◌==◌, max, Bool, true, false, ◌&&◌, List, [], ◌∷◌, ◌++◌, length, ◌+◌, refl, ap, sym, ◌∙◌, subst, arith}
 use Rattle.std.specs.Prelude.{Some, filter, nat_lt, if◌then◌else◌}
 use Rattle.std.specs.List.{flat_map, list_any, AllByRecursion, cons_option}
@@ -170,7 +170,7 @@ heard_fits c made past a b moment g arms h =
     clock : (l m : ℕ) → l ≤ m → max l (max m 0) ≡ m
     clock l m k = omega (arith, k)
 
--- the entry is of the datagram, at the moment, and its waits are by the next words
+-- the entry is of the datagram, at the moment, and the generator's next numbers chose its waits
 pub heard_enters : {W : Type 0} (next_word : W → ℕ × W) (a b : AgentContent W) (moment : ℕ) (g : Datagram) (arms : List Arm) (e : Entry) → a.last ≤ moment → HaveSettings a.config a.timers → WaitsAreChosen next_word a.timers a.words arms b.words
     → e ≡ heard_entry a.config.me moment g arms a.state → ((c : Config) (made : ℕ) (past : List Entry) → AgentFits c made past a → Heeds c made past a b moment g (heard_entry c.me moment g arms a.state)) → Enters next_word (Some moment) (Heard g) a b e
 heard_enters next_word a b moment g arms e late settings drawn e_is heeds = record {

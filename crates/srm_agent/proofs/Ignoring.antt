@@ -101,7 +101,7 @@ heard_reads next_word a b moment session bytes g e here same judged enters by = 
       ∙ sym (ap (λ (b : Bool). if b then (Noise, Ignored causes.Gone) else read_as c past (judge c.session bytes)) (ap is_gone (sym h.state) ∙ here) ∙ ap (read_as c past) j);
 }
 
--- what is refused for memory spells a datagram: where it was read, and where memory ran out in reading
+-- out of memory comes only for a datagram: one that was decoded, or one where memory ran out in decoding
 pub refused_as_read : {A B : Type 0} (r : Result A B) (session own : ℕ) (bytes : List ℕ) (g : Datagram) → session ≡ own → judge session bytes ≡ Ok g → OnErr r (IsOk (judge own bytes))
 refused_as_read (Ok x) session own bytes g same read = tt
 refused_as_read (Err y) session own bytes g same read = rw (← same, read) refl

@@ -1,4 +1,4 @@
--- The entry in which a session message was heard and accepted.
+-- The entry of a session message that was heard and accepted.
 use Rattle.std.proofs.Common.{◌≡◌, ℕ, ◌≤◌, true, false, List, [], ◌∷◌, ◌++◌, refl, ap, sym, ◌∙◌, subst}
 use Rattle.std.specs.Prelude.{Some}
 use Rattle.std.specs.List.{flat_map, cons_option}

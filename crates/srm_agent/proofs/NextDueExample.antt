@@ -1,4 +1,4 @@
--- The next moment at which a tick does something, of a new member, of one that has drawn, and of one that is gone.
+-- When a tick next does something: for a new member, for one that has drawn, and for one that is gone.
 use Rattle.std.proofs.Common.{◌≡◌, ℕ, ◌<◌, true, false, not, ◌||◌, List, [], ◌∷◌, refl, ap, sym, ◌∙◌, subst, arith, lit≤}
 use Rattle.std.specs.Prelude.{Some, None, nat_le, if◌then◌else◌}
 use Rattle.std.proofs.lemmas.Bool.Decides.{nat_tests}
@@ -71,7 +71,7 @@ due_after_a_second = (refl, lit≤ tt, (λ now l u. (idle_before now u, idle_res
 abbrev drawn : Entry
 drawn = plain 0 5 (Drew first_page []) (Some (record { name = named first_stream 1; stamp = 5; body = [] })) [] None Active
 
--- an entry in which nothing is charged is marked with nothing
+-- an entry that charges nothing is marked with nothing
 unmarked : (x : Going) (e : Entry) → x.entry ≡ e → datagrams_of x.goes ≡ charged x.entry → charged e ≡ [] → x ≡ idle e
 unmarked x e p same none = ap (λ en. record { entry = en; goes = x.goes }) p ∙ ap (λ goes. record { entry = e; goes = goes }) (nothing_went x.goes (same ∙ ap charged p ∙ none))
 
@@ -84,7 +84,7 @@ two_unmarked (x ∷ y ∷ []) a b q all m n =
     ap (λ z. z ∷ y ∷ []) (unmarked x a p all.0.same m) ∙ ap (λ z. idle a ∷ z ∷ []) (unmarked y b r all.1.0.same n)
 two_unmarked (x ∷ y ∷ z ∷ gs) a b q all m n = absurd (cc)
 
--- a tick that hands out and sends nothing
+-- a tick that requests, repairs and sends nothing
 abbrev idle_tick : Entry → Entry
 idle_tick e = record {
   member = e.member;

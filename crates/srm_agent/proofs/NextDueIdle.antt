@@ -1,4 +1,4 @@
--- A tick at which no timer runs out, nothing that waits may go and no session message is due: an entry without effects is right.
+-- If no timer expires, nothing that waits may go and no session message is due, a tick's entry without effects is right.
 use Rattle.std.proofs.Common.{◌≡◌, ℕ, ◌+◌, ◌<◌, ◌≤◌, ◌==◌, Bool, true, false, not, ◌&&◌, List, [], ◌∷◌, ◌++◌, length, map, refl, ap, sym, ◌∙◌, subst, arith}
 use Rattle.std.specs.Prelude.{Option, Some, None, option_to_list, nat_le, count_by, cond, if◌then◌else◌, MatchOption}
 use Rattle.std.specs.Bool.{OnTrue}

@@ -1,4 +1,4 @@
--- Where one tick may do nothing, each that may come does nothing; and so does each of a member that is gone.
+-- If a tick without effects is right, then no tick at that moment has effects. No tick of a gone member has any.
 use Rattle.std.proofs.Common.{◌≡◌, ℕ, Bool, true, false, not, ◌&&◌, ◌||◌, List, [], ◌∷◌, ◌++◌, refl, ap, sym, ◌∙◌, subst}
 use Rattle.std.specs.Prelude.{Option, Some, None, nat_le, filter}
 use Rattle.std.specs.List.{AllByRecursion}
@@ -31,7 +31,7 @@ use Rattle.srm_agent.proofs.NextDueStirs.{MayCome, may_come, DidNothing, did_not
 use Rattle.srm_entries.proofs.Rating.{not_nil}
 use Rattle.srm_entries.proofs.Spending.{law_to}
 
--- what it hands out
+-- what it requests and repairs
 
 none_named : (test : FullName → Bool) (names : List FullName) → AreExactly test names → ((n : FullName) → test n ≡ false) → names ≡ []
 none_named test [] are none = refl
@@ -125,7 +125,7 @@ ends_not : (c : Config) (made : ℕ) (past : List Entry) (i : Entry) (o : Option
 ends_not c made past i None e ends none = refl
 ends_not c made past i (Some f) e (g, is, message) none = absurd (not_nil (charged i) [] g (sym none ∙ is))
 
--- two ticks at a moment in which nothing is charged end alike
+-- two ticks at a moment that charge nothing end alike
 ends_alike : (c : Config) (made : ℕ) (past : List Entry) (now : ℕ) (e : Entry) → ticked e ≡ true → e.moment ≡ now → e.effects.drawn ≡ None → charged e ≡ []
     → session_message_due c made past e ≡ ending_of (state past) (not (all_data_sent past)) (nat_le (session_due c made past) now)
 ends_alike c made past now e t at none uncharged =

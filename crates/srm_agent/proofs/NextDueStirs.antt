@@ -1,4 +1,4 @@
--- A tick at which a timer ran out, something that waits may go or a session message is due does something.
+-- If a timer has expired, something that waits may go or a session message is due, a tick does something.
 use Rattle.std.proofs.Common.{◌≡◌, ℕ, ◌≤◌, ◌==◌, Bool, true, false, not, ◌&&◌, List, [], ◌∷◌, ◌++◌, length, refl, ap, sym, ◌∙◌, subst, arith}
 use Rattle.std.specs.Prelude.{Option, Some, None, option_map, nat_le, if◌then◌else◌, filter, IsSome}
 use Rattle.std.specs.List.{AllByRecursion}

@@ -1,4 +1,5 @@
--- An entry that hears, draws, sets and hands out nothing: what it leaves as it was. And one that sends nothing either.
+-- An entry that hears, draws, sets, requests and repairs nothing, and what it leaves as it was. The same of one that sends nothing
+-- either.
 use Rattle.std.proofs.Common.{◌≡◌, ℕ, ◌+◌, Bool, true, false, not, ◌&&◌, ◌||◌, List, [], ◌∷◌, ◌++◌, refl, ap, sym, ◌∙◌, subst}
 use Rattle.std.specs.Prelude.{None, option_map, is_some, if◌then◌else◌, unwrap_or}
 use Rattle.std.proofs.Math.Bool.{or-false}

@@ -1,4 +1,4 @@
--- Room in the store: an agent fits with it what it fitted before, so what is heard with room is heard.
+-- Room in the store changes nothing that an agent fits, so what is done once there is room is done.
 use Rattle.std.proofs.Common.{◌≡◌, ℕ, ◌≤◌, true, false, List, refl, ap, sym, ◌∙◌}
 use Rattle.std.specs.Prelude.{◌↔◌, map, Some, Result, Err}
 use Rattle.std.proofs.lemmas.Bool.{false≢true}
@@ -85,7 +85,7 @@ pub unslotted_judged : {W : Type 0} (a : AgentContent W) (moment : ℕ) (g : Dat
     → table_lacks_room_for a.pages names ≡ false → Outgrows a.store names → e ≡ ignored_entry a moment (Heard g) causes.PageLimit → IsJudgedBy g a e
 unslotted_judged a moment g names e room full is = ignored_judged a moment g causes.PageLimit (Some causes.PageLimit) e refl (never_full g a names room full) is
 
--- what room says where it is refused for pages
+-- what follows if the store has no slots for the pages
 pub at_full : (s : StoreContent) (names : List FullName) (r : Result (Unit {0}) StoreFault) → r ≡ Err PageLimit
     → ((inserted : List Drawop) (evidence : List FullName) (settled : List Settling) → StoreFits inserted evidence settled s → ((r ≡ Err PageLimit) ↔ (outgrow inserted evidence (map page_of_name names) ≡ true)))
     → Outgrows s names

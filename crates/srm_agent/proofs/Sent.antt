@@ -1,4 +1,4 @@
--- What a tick does to the bucket: its requests and repairs are handed in, and what goes is what the entry charges.
+-- What a tick does to the bucket: it adds its requests and repairs, and what goes is what the entry charges.
 use Rattle.std.proofs.Common.{◌≡◌, ℕ, true, false, not, ◌&&◌, List, [], ◌∷◌, ◌++◌, map, refl, ap, sym, ◌∙◌, subst, append_assoc}
 use Rattle.std.specs.Prelude.{Some, None, if◌then◌else◌}
 use Rattle.std.specs.Bool.{OnTrue}

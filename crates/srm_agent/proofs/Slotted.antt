@@ -1,4 +1,4 @@
--- The slots of a run as the pages of a table: what entries name is added to it.
+-- The page slots of a run are the agent's page table: the pages that an entry names are added to both.
 use Rattle.std.proofs.Common.{◌≡◌, Bool, true, false, not, List, [], ◌∷◌, ◌++◌, length, refl, ap, ◌∙◌}
 use Rattle.std.specs.Prelude.{nat_lt}
 use Rattle.std.specs.List.{flat_map}

@@ -1,4 +1,4 @@
--- The pages of a table in order: sorted, each once.
+-- Sorting the pages that have slots puts each into order once.
 use Rattle.std.proofs.Common.{◌≡◌, ◌≤◌, Bool, true, false, not, List, [], ◌∷◌, length, refl, ap, sym, ◌∙◌, subst, arith}
 use Rattle.std.specs.Prelude.{filter, cond}
 use Rattle.std.specs.List.Sorted.{IsPermutation, IsSorted}

@@ -1,4 +1,4 @@
--- What a store holds can be spelled, also once more is held or known.
+-- What a store holds can be encoded, also once more is held or known.
 use Rattle.std.proofs.Common.{ℕ, List, [], ◌∷◌, ◌++◌, sym, subst}
 use Rattle.std.specs.Prelude.{Option, Some, None}
 use Rattle.srm_names.specs.FullName.{FullName}

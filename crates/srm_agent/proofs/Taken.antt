@@ -1,4 +1,4 @@
--- The entry in which data or a repair was heard and accepted.
+-- The entry of data or a repair that was heard and accepted.
 use Rattle.std.proofs.Common.{◌≡◌, ℕ, ◌≤◌, Bool, true, false, ◌||◌, List, [], ◌∷◌, ◌++◌, refl, ap, sym, ◌∙◌, subst, arith}
 use Rattle.std.specs.Prelude.{Option, Some, None, is_some, if◌then◌else◌}
 use Rattle.std.proofs.Math.Bool.{or-false}
@@ -112,7 +112,7 @@ below_is n s k known_of number names e f g h = record {
   exact = λ m. h.exact m ∙ ap (λ t. is_between t k number m) e ∙ ap (λ x. is_between n.stream x number m) f ∙ ap (λ x. is_between n.stream known_of x m) g;
 }
 
--- want of memory: the store has room, the timers stay, and no word was used
+-- out of memory: the store has room, the timers stay, and no random number was consumed
 pub stays : {W : Type 0} (a : AgentContent W) (s : StoreContent) (t : TimersContent) (w : W) → StoreStays a.store s → TimersStay a.timers t → w ≡ a.words → AgentStays a (record a { store = s; timers = t; words = w })
 stays a s t w kept timers words = record {
   fits = λ c made past h. refit c made past a s t a.bucket w h (kept.each (held past) (evidence_in past) (settlings past) h.store) (timers.each c past h.timers) h.bucket;

@@ -1,4 +1,4 @@
--- Data that was drawn and not sent is what waits in the bucket as new.
+-- The data that was drawn and not sent is what waits in the bucket as new.
 use Rattle.std.proofs.Common.{◌≡◌, ℕ, ◌+◌, ◌==◌, Bool, true, false, not, List, [], ◌∷◌, ◌++◌, length, map, refl, ap, sym, ◌∙◌, subst, inl, inr, arith, length-append, eqb-true}
 use Rattle.std.specs.Prelude.{Option, Some, None, cond, count_by, filter, option_map, option_to_list, nat_le, if◌then◌else◌}
 use Rattle.std.specs.List.{flat_map, filter_map, cons_option, AllByRecursion}
@@ -38,7 +38,7 @@ use Rattle.srm_outbox.specs.Outs.{datagram_of}
 use Rattle.srm_entries.proofs.Marking.{gone_is, handed_is}
 use Rattle.srm_entries.proofs.Sending.{went_first, went_is_charged, in_its_class}
 
--- what is handed in as new is data, and nothing else is
+-- what is added as new is data, and nothing else is
 
 abbrev is_new : Classed Datagram → Bool
 is_new i = rank i.class == rank New

@@ -44,8 +44,8 @@ content_of a = record {
   due = a.due;
 }
 
--- each slot has its progress, whether it has a page or not; what is held can be spelled; the timers have the agent's settings; what
--- waits for the bucket is the agent's own, and spelled in its session
+-- Each slot has its progress, whether it has a page or not. What is held can be encoded. The timers have the agent's settings. What waits
+-- in the bucket is this member's, and encoded in its session.
 pub record IsWhole {W : Type 0} (a : Inside W) : Type 0 where
   pub last : a.last ≤ LATEST_MOMENT
   pub progress : length a.progress.items ≡ PAGES

@@ -1,4 +1,4 @@
--- What a draw is refused for, what it makes, and what it leaves.
+-- The faults of a draw, and what it makes and leaves.
 use Rattle.std.specs.Prelude.{◌≡◌, ℕ, ◌+◌, nat_lt, nat_le, Bool, List, [], ◌∷◌, Option, Some, None, if◌then◌else◌}
 use Rattle.srm_names.specs.declared.limits.TheConstants.{DRAWOPS, LONGEST_BODY}
 use Rattle.srm_names.specs.declared.page.Page.{Page}
@@ -24,7 +24,7 @@ abbrev pub verdict_of_refusal : Option AgentFault → Verdict
 verdict_of_refusal None = Done
 verdict_of_refusal (Some fault) = Refused fault
 
--- all that a draw may be refused for, but that the stream is full
+-- the faults of a draw in their order, a full stream aside
 abbrev pub refusals : AgentState → List Page → Page → ℕ → List (Bool × Verdict)
 refusals state pages page length =
     (is_gone state, Refused faults.Gone)
@@ -32,7 +32,7 @@ refusals state pages page length =
     ∷ (nat_lt LONGEST_BODY length, Refused faults.BodyLong)
     ∷ (table_lacks_room pages page, Refused faults.PageLimit) ∷ []
 
--- the name after so many of a stream, and None where it is full
+-- the name after so many of a stream, and None if it is full
 abbrev pub name_after : Stream → ℕ → Option FullName
 name_after s count = if nat_le DRAWOPS count then None else Some (named s (count + 1))
 
@@ -46,7 +46,7 @@ drawn_entry me moment page body drawop after = record {
   effects = record { drawn = Some drawop; arms = []; asks = []; fixes = []; outs = []; message = None; state = after };
 }
 
--- the drawop in each form in which the draw needs it
+-- the drawop in both forms: to hold, and to send
 pub record IsDraftOf (session : ℕ) (drawop : Drawop) (draft : Draft) : Type 0 where
   pub held : draft.held ≡ drawop
   pub going : IsOutgoingOf session (Data drawop) draft.going.value

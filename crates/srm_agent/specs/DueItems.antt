@@ -1,4 +1,4 @@
--- What a tick hands in of what is due.
+-- The requests and repairs that a tick adds to the bucket.
 use Rattle.std.specs.Prelude.{◌≡◌, ℕ, List, ◌++◌}
 use Rattle.std.specs.List.{filter_map}
 use Rattle.srm_names.specs.FullName.{FullName}
@@ -12,8 +12,7 @@ use Rattle.srm_agent.specs.Contents.{AgentContent}
 use Rattle.srm_agent.specs.Fits.{AgentFits}
 use Rattle.srm_outbox.specs.DueItems.{AreDueItems}
 
--- the requests and the repairs of an agent for what is due, over whatever run it fits: the requests for these names, and the repairs of those of the
--- others that it holds
+-- the requests for these names, and the repairs of those of the others that the agent holds, over whatever run it fits
 pub record DueItems {W : Type 0} (a : AgentContent W) (asks fixes : List FullName) (items : List DueItem) : Type 0 where
   pub datagrams : List Datagram
   pub spelled : AreDueItems a.config.me a.config.session a.showing datagrams items

@@ -1,4 +1,4 @@
--- What a call says of its entry, at worked calls.
+-- What calls return and what their entries say, on examples.
 use Rattle.std.specs.Prelude.{◌≡◌, ℕ, [], ◌∷◌, map, Some, None, Result, Ok, Err, refl}
 use Rattle.std.proofs.Common.{ap, arith}
 use Rattle.std.proofs.lemmas.Option.{same_Some}
@@ -31,7 +31,7 @@ moments = refl
 soonest : map (λ t. sooner_of t 1000) (Some 22 ∷ Some 5000 ∷ None ∷ []) ≡ 22 ∷ 1000 ∷ 1000 ∷ []
 soonest = refl
 
--- ---- what a call answers, which says a number where it is done
+-- ---- what a call returns: a number, if it is done
 
 abbrev IsThree : ℕ → Type 0
 IsThree n = n ≡ 3
@@ -54,7 +54,7 @@ refused_says_its_fault = refl
 refused_says_no_other : AnswersAs IsThree (Refused Gone) (refused Leaving) → ⊥
 refused_says_no_other h = absurd (let k : refused Leaving ≡ refused Gone = h in cc)
 
--- ---- the entry of what was heard, by what is answered
+-- ---- the entry of what was heard, by what is returned
 
 verdicts : map verdict_of_outcome (outcomes.Taken ∷ outcomes.Ignored causes.Gone ∷ []) ≡ Done ∷ Ignored causes.Gone ∷ []
 verdicts = refl
@@ -62,7 +62,7 @@ verdicts = refl
 taken_so : entry_with 1 10 (inputs.Heard (Data third_drawop)) Active (record { arms = ask_arm 1 0 200000 ∷ []; outcome = outcomes.Taken }) ≡ hears 1 10 (Data third_drawop) (ask_arm 1 0 200000 ∷ [])
 taken_so = refl
 
--- ---- what hearing bytes answers
+-- ---- what hearing bytes returns
 
 taken_sets_a_timer : AnswersHeard (hears 1 10 (Data third_drawop) (ask_arm 1 0 200000 ∷ [])) (Ok (record { arms = ask_arm 1 0 200000 ∷ []; outcome = outcomes.Taken }))
 taken_sets_a_timer = (refl, refl)
@@ -73,7 +73,7 @@ ignored_with_its_cause = refl
 never_refused : (fault : AgentFault) → Refused fault ≡ verdict_of_outcome outcomes.Taken → ⊥
 never_refused fault h = absurd (let k : Refused fault ≡ Done = h in cc)
 
--- ---- what a draw answers, and what giving the first message leaves
+-- ---- what a draw returns, and the entry of giving the first message
 
 drawn_name : IsDrawnName (draws 0 1 first_drawop) (named first_stream 1)
 drawn_name = refl

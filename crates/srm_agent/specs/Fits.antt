@@ -1,4 +1,4 @@
--- An agent fits a run of its member, where all that it keeps is what the definitions say of it.
+-- When an agent fits a run of its member: all that it keeps is what the definitions say of that run.
 use Rattle.std.specs.Prelude.{◌≡◌, ℕ, List, [], length, map, Some, slice_get}
 use Rattle.std.specs.List.{AllByRecursion}
 use Rattle.srm_names.specs.declared.limits.TheConstants.{PAGES}
@@ -27,7 +27,7 @@ use Rattle.srm_agent_state.specs.Progress.{ProgressContent, ProgressFits}
 use Rattle.srm_agent_state.specs.TimersKept.{TimersFit}
 use Rattle.srm_agent.specs.Contents.{AgentContent}
 
--- what waits for the bucket was handed in by the entries, and is spelled
+-- what waits in the bucket is what the entries added to it, each item encoded
 pub record BucketFitsPast (c : Config) (past : List Entry) (b : BucketContent Outgoing) : Type 0 where
   pub goings : List Going
   pub entries : entries_of goings ≡ past

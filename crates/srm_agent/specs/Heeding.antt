@@ -1,4 +1,4 @@
--- What hearing one datagram says of its entry.
+-- The entry of one datagram that was heard.
 use Rattle.std.specs.Prelude.{◌≡◌, ◌≢◌, ℕ, ◌≤◌, false, List, [], Option, Some, None}
 use Rattle.srm_names.specs.declared.limits.TheConstants.{LATEST_MOMENT}
 use Rattle.srm_names.specs.FullName.{FullName}
@@ -31,7 +31,7 @@ use Rattle.srm_agent.specs.Noting.{Enters, IsAllowed, verdict_of_outcome}
 pub record IsJudgedBy {W : Type 0} (datagram : Datagram) (old : AgentContent W) (e : Entry) : Type 0 where
   pub each : (c : Config) (made : ℕ) (past : List Entry) → AgentFits c made past old → e.verdict ≡ verdict_of c past (Heard datagram)
 
--- what can't be read is noise with its fault, which is none of memory
+-- bytes that can't be decoded are noise with this fault, and it isn't that memory ran out
 pub record IsNoiseFor (fault : DecodeFault) (e : Entry) : Type 0 where
   pub input : e.input ≡ Noise
   pub verdict : e.verdict ≡ Ignored (causes.Decode fault)
@@ -42,7 +42,7 @@ abbrev pub carrying : Option ℕ → Drawop → Datagram
 carrying None drawop = Data drawop
 carrying (Some repairer) drawop = Repair repairer drawop
 
--- a member may accept a datagram with these names at this moment: it isn't gone, and the table has room for their pages
+-- a member may accept a datagram with these names at this moment: it isn't gone, and their pages have slots or find free ones
 pub record MayAccept {W : Type 0} (datagram : Datagram) (names : List FullName) (moment : ℕ) (a : AgentContent W) : Type 0 where
   pub here : is_gone a.state ≡ false
   pub spelled : IsSpellable datagram
@@ -66,7 +66,7 @@ entry_with me moment input state heard = record {
 abbrev pub heard_entry : ℕ → ℕ → Datagram → List Arm → AgentState → Entry
 heard_entry me moment datagram arms state = entry_with me moment (Heard datagram) state (record { arms = arms; outcome = outcomes.Taken })
 
--- and of what an agent heard
+-- the same of what an agent heard
 abbrev pub entry_by : {W : Type 0} → AgentContent W → ℕ → Input → answers.Heard → Entry
 entry_by a moment input heard = entry_with a.config.me moment input a.state heard
 

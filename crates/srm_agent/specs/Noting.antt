@@ -41,7 +41,7 @@ moment_that_counts None last = last
 moment_that_counts (Some now) last = max now last
 
 -- The entry is of this input, at the moment that counts. Whatever run the agent fitted, it fits the run with this entry added.
--- The waits of its arms are by the next words, one word an arm, in order; no other word is used.
+-- The generator's next numbers choose the waits of its arms, one number an arm, in order; the call consumes no other.
 pub record Enters {W : Type 0} (next_word : W → ℕ × W) (now : Option ℕ) (input : Input) (old new : AgentContent W) (e : Entry) : Type 0 where
   pub input_is : e.input ≡ input
   pub moment_is : e.moment ≡ moment_that_counts now old.last
@@ -52,12 +52,12 @@ pub record Enters {W : Type 0} (next_word : W → ℕ × W) (now : Option ℕ) (
 abbrev pub EntersWithoutEffects : {W A : Type 0} → (W → ℕ × W) → ℕ → Input → AgentContent W → AgentContent W → Result A AgentFault → Type 0
 EntersWithoutEffects next_word moment input old new answer = Enters next_word (Some moment) input old new (entry_without_effects new.config.me moment input (verdict_answering answer) None new.state)
 
--- whatever run the agent fitted, it still fits, and no word was used
+-- whatever run the agent fitted, it still fits, and no random number was consumed
 pub record AgentStays {W : Type 0} (old new : AgentContent W) : Type 0 where
   pub fits : (c : Config) (made : ℕ) (past : List Entry) → AgentFits c made past old → AgentFits c made past new
   pub words : new.words ≡ old.words
 
--- a call that is refused answers so, and one that is done answers its value
+-- a call that fails returns its fault, and one that is done its value
 abbrev pub AnswersAs : {A : Type 0} → (A → Type 0) → Verdict → Result A AgentFault → Type 0
 AnswersAs is (Refused fault) answer = answer ≡ Err fault
 AnswersAs is (Ignored cause) answer = ⊥
@@ -72,8 +72,8 @@ HasEntry next_word now input is old new answer = (e : Entry) × Enters next_word
 pub record IsAllowed {W : Type 0} (input : Input) (old : AgentContent W) : Type 0 where
   pub each : (c : Config) (made : ℕ) (past : List Entry) → AgentFits c made past old → verdict_of c past input ≡ Done
 
--- A call had an entry, and answered as it says; or memory ran out for what would else be done, and whatever run the agent fitted, it
--- still fits.
+-- A call had an entry, and answered as it says. Or memory ran out for an input that would have been done, and whatever run the agent
+-- fitted, it still fits.
 abbrev pub Does : {W A : Type 0} → (W → ℕ × W) → Option ℕ → Input → (Entry → A → Type 0) → AgentContent W → AgentContent W → Result A AgentFault → Type 0
 Does next_word now input is old new answer = HasEntry next_word now input is old new answer ⊎ ((answer ≡ Err Memory) × IsAllowed input old × AgentStays old new)
 
@@ -95,8 +95,7 @@ AnswersHeard e (Err fault) = ⊥
 abbrev pub HeardAs : {W : Type 0} → (W → ℕ × W) → ℕ → List ℕ → AgentContent W → AgentContent W → Result Heard AgentFault → Type 0
 HeardAs next_word now bytes old new answer = (e : Entry) × Enters next_word (Some now) e.input old new e × ReadsAs bytes old e × AnswersHeard e answer
 
--- Hearing bytes had an entry, and answered as it says; or memory ran out, for a member that isn't gone and bytes that spell a datagram of
--- its session.
+-- Hearing bytes had an entry, and answered as it says. Or memory ran out, for a member that isn't gone and a datagram of its session.
 abbrev pub Hears : {W : Type 0} → (W → ℕ × W) → ℕ → List ℕ → AgentContent W → AgentContent W → Result Heard AgentFault → Type 0
 Hears next_word now bytes old new answer =
     HeardAs next_word now bytes old new answer ⊎ ((answer ≡ Err Memory) × (is_gone old.state ≡ false) × IsOk (judge old.config.session bytes) × AgentStays old new)

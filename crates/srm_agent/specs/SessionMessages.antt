@@ -45,7 +45,7 @@ pub record CountsOnce {W : Type 0} (a : AgentContent W) (member count : ℕ) : T
   pub is : (c : Config) (made : ℕ) (past : List Entry) → AgentFits c made past a → count ≡ once past member
   pub few : count ≤ 1
 
--- the row of a stream of which something is known
+-- the row of a stream, if something of it is known
 abbrev pub row_for : List Entry → Stream → Option FullName
 row_for past s = option_map (named s) (if_positive (known past s))
 
@@ -72,7 +72,7 @@ pub record AreShown {W : Type 0} (a : AgentContent W) (streams : List Stream) : 
   pub are : streams ≡ streams_on a.showing a.config.members
   pub few : a.config.members ≤ MEMBERS
 
--- the pages of a table in order
+-- the pages that have slots, in order
 pub record AreInOrder (pages sorted : List Page) : Type 0 where
   pub in_order : ascending page_below sorted ≡ true
   pub exact : (p : Page) → list_any (same_page p) sorted ≡ list_any (same_page p) pages

@@ -1,4 +1,4 @@
--- What a tick makes before anything changes, and what each of its steps does.
+-- What a tick prepares before anything changes, and what each of its steps does.
 use Rattle.std.specs.Prelude.{◌≡◌, ℕ, ◌+◌, ◌==◌, Bool, true, false, not, ◌&&◌, List, [], length, if◌then◌else◌, Option, Some, None, is_some, nat_le}
 use Rattle.std.specs.List.{AllByRecursion}
 use Rattle.srm_names.specs.FullName.{FullName}
@@ -34,7 +34,7 @@ use Rattle.srm_agent.specs.SessionMessages.{IsSessionMessageSpelled}
 use Rattle.srm_agent.specs.DueItems.{DueItems}
 use Rattle.srm_outbox.specs.Outbox.{WentContent, HandsIn, LetsGo}
 
--- the entry of a tick: what it hands out, which timers it sets, what it sends, and the state after it
+-- the entry of a tick: the names that it requests and repairs, the timers that it sets, what it sends, and the state after it
 abbrev pub tick_entry : ℕ → ℕ → List FullName → List FullName → List Arm → List Datagram → AgentState → Entry
 tick_entry me moment asks fixes arms outs after = record {
   member = me;
@@ -57,7 +57,7 @@ pub record TicksAs {W : Type 0} (next_word : W → ℕ × W) (now moment : ℕ) 
   pub enters : Enters next_word (Some now) Ticked old new (ticked_by old moment ticked)
   pub spelled : AllByRecursion (IsOut old.config.session) ticked.outs
 
--- nothing was handed out or sent
+-- the tick requested, repaired and sent nothing
 pub record IsIdle (ticked : answers.Ticked) : Type 0 where
   pub asks : ticked.asks ≡ []
   pub fixes : ticked.fixes ≡ []
@@ -74,7 +74,7 @@ abbrev pub IsSessionMessageIf : {W : Type 0} → Bool → AgentContent W → ℕ
 IsSessionMessageIf wanted a moment farewell None = wanted ≡ false
 IsSessionMessageIf wanted a moment farewell (Some r) = (wanted ≡ true) × IsSessionMessageAt a moment farewell r
 
--- the names whose timers ran out, over whatever run the agent fits
+-- the names whose timers have expired, over whatever run the agent fits
 pub record IsToHandOut {W : Type 0} (a : AgentContent W) (moment : ℕ) (h : HandedOut) : Type 0 where
   pub asks : AsksRanOut moment a.timers h.asks
   pub rising : ascending name_below h.asks ≡ true
@@ -82,25 +82,25 @@ pub record IsToHandOut {W : Type 0} (a : AgentContent W) (moment : ℕ) (h : Han
   pub fixes : FixesRanOut moment a.timers h.fixes
   pub due_fixes : AreDueFixes moment a.timers h.fixes
 
--- All that a tick hands out, sends and answers: the names whose timers ran out, the requests and repairs for them, the farewell of a
--- member that is leaving, and the session message that is due.
+-- All that is due at a tick: the names whose timers have expired, the requests and repairs for them, the farewell of a leaving member,
+-- and the session message.
 pub record IsDue {W : Type 0} (a : AgentContent W) (moment : ℕ) (d : Due) : Type 0 where
   pub handed_out : IsToHandOut a moment d.handed_out
   pub due_items : DueItems a d.handed_out.asks d.handed_out.fixes d.due_items.items
   pub farewell : IsSessionMessageIf (is_leaving a.state) a moment true d.farewell
   pub session_message : IsSessionMessageIf (nat_le a.due moment) a moment false d.session_message
 
--- the timers whose moment has come are handed out, and the timers are those after it
+-- the tick ends or sets again the timers that have expired, and these are the timers after it
 pub record TicksTimers {W : Type 0} (a : AgentContent W) (asks fixes : List FullName) (moment : ℕ) (arms : List Arm) (new : TimersContent) : Type 0 where
   pub each : (c : Config) (made : ℕ) (past : List Entry) (e : Entry) → AgentFits c made past a → TicksWith asks fixes moment arms e → is_gone (state past) ≡ false
       → AreToAsk moment past asks → AreToFix moment past fixes → TimersAdd c past e new × TimersRight past e
 
--- these names were handed out, and these timers set by the next words
+-- the timers of these names have expired, and the generator's next numbers chose the waits of those that were set again
 pub record HandsOut {W : Type 0} (next_word : W → ℕ × W) (a : AgentContent W) (handed_out : HandedOut) (moment : ℕ) (arms : List Arm) (b : AgentContent W) : Type 0 where
   pub ticks : TicksTimers a handed_out.asks handed_out.fixes moment arms b.timers
   pub chosen : AreChosen next_word (low_of a.config) (high_of a.config) a.words arms b.words
 
--- requests and repairs are handed in, and what may go at a moment goes
+-- requests and repairs are added to the bucket, and what may go at a moment goes
 pub record SendsAll (moment : ℕ) (due_items : List DueItem) (old new : BucketContent Outgoing) (went : WentContent) : Type 0 where
   pub after_hand_in : BucketContent Outgoing
   pub hands : HandsIn due_items old after_hand_in
@@ -110,7 +110,7 @@ pub record SendsAll (moment : ℕ) (due_items : List DueItem) (old new : BucketC
 abbrev pub data_waits : BucketContent Outgoing → Bool
 data_waits b = not (length (queue b.waiting New) == 0)
 
--- the message that a tick ends with: the farewell of a member that is leaving, once no data of its own waits, else the session message
+-- the message that a tick ends with: the farewell of a leaving member, once no new data waits, else the session message
 abbrev pub session_message_at_end : (waits : Bool) → (farewell message : Option DueSessionMessage) → Option DueSessionMessage
 session_message_at_end true farewell message = message
 session_message_at_end false None message = message

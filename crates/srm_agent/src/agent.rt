@@ -1,4 +1,4 @@
-//! One member's agent.
+//! The agent of one member.
 
 ghost use Rattle.std.specs.Prelude.{◌≡◌, ◌≤◌, ℕ, max, List, [], IfOk, Ok, Err, None};
 ghost use Rattle.srm_names.specs.declared.limits.TheConstants.{LATEST_MOMENT};
@@ -43,43 +43,44 @@ use srm_timers::Words;
 use std::alloc::{AllocError, Global};
 use std::marker::Model;
 
-/// One member of a session: a state machine without clock, socket or thread. Strokes, datagrams, moments and words go in;
+/// One member of a session: a state machine without clock, socket or thread. Strokes, datagrams, moments and random numbers go in;
 /// datagrams and page messages come out.
 ///
-/// # How its calls go together
+/// # Order of calls
 ///
 /// One thread drives an agent:
 ///
-/// - Call [`draw`](Agent::draw), [`show`](Agent::show) and [`leave`](Agent::leave) when the user does so, and [`hear`](Agent::hear) when a
-///   datagram comes. None of these sends: what is to go out goes with a tick.
-/// - After each of them, and after each tick, ask [`next_due`](Agent::next_due) again, since any call may bring it nearer or put it
-///   off. One timer of the caller's is enough.
-/// - When that moment has come, call [`tick`](Agent::tick). A tick that is late does then what is due; one that is early does nothing.
-/// - Send the bytes of each of [`Ticked::outs`](crate::Ticked), in order, to all other members, once. What is lost on the way is asked for
-///   again; nobody answers that it came. What a multicast brings back to its sender is ignored.
-/// - Then, and after each other call, call [`give`](Agent::give) of each slot, 0 to 7, until it answers `None`, and hand what comes to
-///   the page's worker. What isn't taken now is still to come.
+/// - Call [`draw`](Agent::draw), [`show`](Agent::show) and [`leave`](Agent::leave) when the user does so, and [`hear`](Agent::hear) when
+///   a datagram comes. None of these sends: datagrams go out with a tick.
+/// - After each of them, and after each tick, ask [`next_due`](Agent::next_due) again, since any call may bring it nearer or put it off.
+///   The caller needs one timer only.
+/// - At that moment call [`tick`](Agent::tick). A late tick does what is due by then; an early one does nothing.
+/// - Send the bytes of each of [`Ticked::outs`](crate::Ticked), in order, to all other members, once. Nobody acknowledges them: members
+///   request what they miss. A member ignores its own datagrams, so a multicast may bring them back.
+/// - Then, and after each other call, call [`give`](Agent::give) for each slot, 0 to 7, until it returns `None`, and pass each message to
+///   the page's worker. What the caller doesn't take now, later calls return.
 ///
-/// To end, [`leave`](Agent::leave), and tick on until [`Ticked::state`](crate::Ticked) is [`AgentState::Gone`]: then `next_due`
-/// has no moment any more, each slot gives what is left and then the close, and the agent can be dropped.
+/// To end, [`leave`](Agent::leave), and tick until [`Ticked::state`](crate::Ticked) is [`AgentState::Gone`]. From then on `next_due`
+/// returns `None`. Each slot gives what is left and then the close, and the agent can be dropped.
 ///
 /// # The clock
 ///
-/// The caller keeps it. Moments are microseconds of the member's own clock from any beginning, at most 2^48, which each caller
-/// shows. Members' clocks needn't agree. A moment below the last one that counted counts as the last, so a clock that steps back
-/// does no harm. A moment that [`next_due`](Agent::next_due) names may be past 2^48: then no tick comes to it.
+/// The caller keeps it. Moments are microseconds of the member's own clock from any beginning, at most 2^48, which the caller shows.
+/// Members' clocks needn't agree. A moment below the last one that counted counts as the last, so a clock that steps back does no harm.
+/// [`next_due`](Agent::next_due) may return a moment past 2^48, which no tick reaches.
 ///
-/// # What is refused, and what to do then
+/// # Errors
 ///
-/// Each call says which faults it has, and in which order. A call that is refused leaves all as it was, the last moment too.
-/// After [`AgentFault::Memory`] make the same call again when there may be memory; a body that was handed over is gone, so keep a
-/// copy of it where that matters. To give up does no lasting harm: a datagram that isn't heard counts as lost, a tick stays due,
-/// a message stays to be given, and a stroke wasn't drawn.
+/// Each call lists its faults in order. After an error nothing has changed, the last moment too, and no random number was consumed.
+///
+/// After [`AgentFault::Memory`] make the same call again once there may be memory. A body that was passed in is gone, so keep a copy of
+/// it where that matters. A caller that gives up loses nothing for good: a datagram that isn't heard counts as lost, a tick stays due, a
+/// message stays to be given, and a stroke wasn't drawn.
 ///
 /// # Entries
 ///
-/// The calls that end in `_noted` answer their [`Entry`](crate::Entry) too, which says who, when, what was asked and what was
-/// done. All laws are said of lists of entries. `srm_world`'s `Recorder` keeps them.
+/// The calls that end in `_noted` also return their [`Entry`](crate::Entry): who called when, with what, and what the call did. All laws
+/// speak of lists of entries. `srm_world`'s `Recorder` keeps them.
 #[derive(Drop)]
 pub struct Agent<W: Words + Drop> {
     alloc: Global,
@@ -90,7 +91,7 @@ pub struct Agent<W: Words + Drop> {
     last: u64,
     showing: Page,
     pages: PageTable,
-    /// How far each slot was given things.
+    /// What each slot was given so far.
     progress: Vec<Progress>,
     store: Store,
     distances: Distances,
@@ -111,8 +112,10 @@ impl<W: Words + Drop> Model for Agent<W> {
 }
 
 impl<W: Words + Drop> Agent<W> {
-    /// An agent that was made at a moment, in microseconds, and did nothing yet. It shows the first page, which it has from
-    /// the start in slot 0. Only want of memory refuses it.
+    /// Makes an active agent at a moment, in microseconds, at most 2^48. It shows the first page, which has slot 0 from the start.
+    /// `words` are its random numbers.
+    ///
+    /// Fails only if out of memory.
     pub fn new(alloc: Global, config: Config, words: W, now: u64) -> Result<Agent<W>, AllocError>
         requires { now ≤ LATEST_MOMENT }
         ensures fits { IfOk result (AgentFits config now []) }
@@ -135,13 +138,13 @@ impl<W: Words + Drop> Agent<W> {
         })
     }
 
-    /// Does nothing. Whatever entries the agent fits are a run of its member, so the laws of runs hold of them: what was given
-    /// ([`gives`](crate::gives)), the response ([`responds`](crate::responds)), and the rate ([`keeps_rate`](crate::keeps_rate)).
+    /// States that each history that this agent fits is a run of its member, and does nothing. So the laws of runs hold of it:
+    /// [`gives`](crate::gives), [`responds`](crate::responds) and [`keeps_rate`](crate::keeps_rate).
     pub fn fits_runs_alone(&self)
         ensures { (c : AConfig) (made : ℕ) (past : List AnEntry) → AgentFits c made past self.now → IsMemberRun c made past }
     {}
 
-    /// Whether the member takes part, leaves or is gone. It takes no memory and changes nothing.
+    /// Returns whether the member is active, leaving or gone. Takes no memory and changes nothing.
     pub fn state(&self) -> AgentState
         ensures { (c : AConfig) (made : ℕ) (past : List AnEntry) → AgentFits c made past self.now → result ≡ state past }
     {
@@ -154,7 +157,7 @@ impl<W: Words + Drop> Agent<W> {
         self.state.is_gone()
     }
 
-    /// The moment that counts.
+    /// The moment that counts: the last one, where `now` is below it.
     fn moment(&self, now: u64) -> u64
         requires { now ≤ LATEST_MOMENT }
         ensures value { result ≡ max now self.now.last }
@@ -163,7 +166,7 @@ impl<W: Words + Drop> Agent<W> {
         now.max(self.last)
     }
 
-    /// What is answered, and the entry, where a call is refused.
+    /// The answer and the entry of a call that fails.
     fn refused<A>(&self, moment: u64, input: Input, fault: AgentFault) -> Noted<A>
         ensures entry { result.entry ≡ entry_without_effects self.now.config.me moment input (Verdict.Refused fault) None self.now.state }
         ensures answer { result.answer ≡ Err fault }
@@ -171,7 +174,7 @@ impl<W: Words + Drop> Agent<W> {
         self.noted(moment, input, Err(fault))
     }
 
-    /// What is answered, and the entry, of a call that is refused, or done and has no effects.
+    /// The answer and the entry of a call that fails, or is done and has no effects.
     fn noted<A>(&self, moment: u64, input: Input, answer: Result<A, AgentFault>) -> Noted<A>
         ensures entry { result.entry ≡ entry_without_effects self.now.config.me moment input (verdict_answering answer) None self.now.state }
         ensures answer { result.answer ≡ answer }
@@ -183,7 +186,7 @@ impl<W: Words + Drop> Agent<W> {
         }
     }
 
-    /// An entry without effects, but perhaps a message. It takes no memory.
+    /// An entry without effects, but perhaps with a message. Takes no memory.
     fn entry(&self, moment: u64, input: Input, verdict: Verdict, message: Option<PageMsg>) -> Entry
         ensures { result ≡ entry_without_effects self.now.config.me moment input verdict message self.now.state }
     {
@@ -201,7 +204,7 @@ fn verdict_answering<A>(answer: &Result<A, AgentFault>) -> Verdict
     }
 }
 
-/// The progress of each slot, which was given nothing.
+/// The progress of slots that were given nothing.
 fn no_progress(alloc: Global) -> Result<Vec<Progress>, AllocError>
     ensures { IfOk result (λ progress. AreNewProgress progress.items) }
 {

@@ -1,12 +1,13 @@
-//! What hearing bytes answers.
+//! What hearing bytes returns.
 
 use srm_entries::Outcome;
 use srm_names::Items;
 use srm_timers::Arm;
 
-/// What became of bytes that came, and the timers that were set by it, in order of name.
+/// What became of bytes that came.
 #[derive(Debug, Drop)]
 pub struct Heard {
+    /// The timers that were set, in order of name; none if the bytes were ignored.
     pub arms: Items<Arm>,
     pub outcome: Outcome,
 }

@@ -1,6 +1,7 @@
-//! One member of a session.
+//! One member of a session: a state machine that runs the protocol.
 //!
-//! An agent has no clock, socket or thread. Its caller hands in strokes, datagrams and moments, and does what comes out:
+//! An [`Agent`] has no clock, socket or thread. Its caller passes in strokes, datagrams and moments, and sends or delivers what the calls
+//! return:
 //!
 //! ```
 //! let config = Config::with(me, members, session, Settings::default())?;
@@ -10,14 +11,14 @@
 //! agent.hear(bytes, now)?;
 //! let ticked = agent.tick(now)?; // at the moment that `next_due` says
 //! for sent in ticked.outs.as_slice() { /* send `sent.bytes` to all other members */ }
-//! while let Some(message) = agent.give(slot)? { /* hand it to the page's worker */ }
+//! while let Some(message) = agent.give(slot)? { /* pass it to the page's worker */ }
 //! ```
 //!
-//! [`Agent`] says how its calls go together. `crates/srm_example` is a whole program.
+//! [`Agent`] says in which order to make the calls. `crates/srm_example` is a whole program.
 //!
-//! **What is refused.** A call answers the first [`AgentFault`] that holds, and each says which and in which order; nothing has
-//! changed then, nor has the last moment. What others send is never an error: it is accepted, or ignored with a [`Cause`]. The
-//! caller shows that moments are at most 2^48 microseconds and slots below 8.
+//! **Errors.** A call returns the first [`AgentFault`] that holds; its docs list the faults in order. After an error nothing has changed,
+//! the last moment too. What others send is never an error: the agent accepts it, or ignores it with a [`Cause`]. The caller shows that
+//! moments are at most 2^48 microseconds and slots below 8.
 #![tactic(auto)]
 
 mod agent;

@@ -1,11 +1,11 @@
-//! What a call answered, with its entry.
+//! What a call returned, with its entry.
 
 use srm_entries::{AgentFault, Entry};
 
-/// What a call answered, and its entry. Both were made before anything changed.
+/// What a call returned, and its entry.
 ///
-/// Where memory is wanted there is neither: the form of a call that notes its entry answers `AllocError`, and the form without an
-/// entry [`AgentFault::Memory`].
+/// Out of memory there is neither: a call that ends in `_noted` returns `AllocError` then, and the call without an entry
+/// [`AgentFault::Memory`].
 #[derive(Debug, Drop)]
 pub struct Noted<A> {
     pub answer: Result<A, AgentFault>,

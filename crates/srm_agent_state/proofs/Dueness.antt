@@ -1,4 +1,4 @@
--- What a tick does to the timers: what is due is asked for again, and repaired.
+-- What a tick does to the timers: it requests again, and repairs, what is due.
 use Rattle.std.proofs.Common.{◌≡◌, ℕ, ◌<◌, Bool, true, false, not, ◌&&◌, ◌||◌, List, [], ◌∷◌, ◌++◌, refl, ap, sym, ◌∙◌, subst}
 use Rattle.std.specs.Prelude.{nat_lt, if◌then◌else◌, Option, Some, None, is_some, option_map}
 use Rattle.srm_names.specs.declared.limits.TheConstants.{MEMBERS}
@@ -90,7 +90,7 @@ ticks_right now past e arms asked fixed t active toask tofix = record {
   };
 }
 
--- arms that are requests wait by the words
+-- random numbers choose the waits of request timers
 pub due_drawn : {W : Type 0} (next_word : W → ℕ × W) (t : TimersContent) (from to : W) (arms : List Arm) → AreAsks arms
     → AreChosen next_word (timers.low_of t.asks.c1) (timers.high_of t.asks.c1 t.asks.c2) from arms to → WaitsAreChosen next_word t from arms to
 due_drawn next_word t from to arms all drawn = record { each = λ c s. chosen_asks next_word c t.asks.c1 t.asks.c2 from to arms s.c1 s.c2 (all_by IsAsk is_ask arms (λ a ask. ask.kind) all.each) drawn }

@@ -1,4 +1,4 @@
--- The arms of two lists.
+-- The timer of a name in two lists of timers, one behind the other.
 use Rattle.std.proofs.Common.{◌≡◌, ℕ, Bool, true, false, ◌||◌, List, [], ◌∷◌, ◌++◌, refl, cond}
 use Rattle.std.specs.Prelude.{Option, Some, None, is_some, option_map}
 use Rattle.srm_names.specs.FullName.{FullName}
@@ -11,7 +11,7 @@ use Rattle.srm_timers.specs.Arms.{wait_basis, arm_names, arm_of}
 use Rattle.srm_timers.specs.Timers.{armed_at}
 use Rattle.srm_entries.proofs.Setting.{of_kind}
 
--- arms of two lists
+-- the arm of a name in two lists
 
 pub arm_of-append : (n : FullName) (xs ys : List Arm) → arm_of n (xs ++ ys) ≡ or_else (arm_of n xs) (arm_of n ys)
 arm_of-append n [] ys = refl

@@ -1,4 +1,4 @@
--- The timers in the middle of an entry: what of them was set, gained and repaired so far; and what each call keeps.
+-- The timers in the middle of an entry: which were set, and which names were gained and repaired so far; and what each call keeps.
 use Rattle.std.proofs.Common.{◌≡◌, ℕ, ◌+◌, ◌*◌, ◌≤◌, min, Bool, true, false, ◌&&◌, ◌||◌, List, [], ◌∷◌, ◌++◌, refl, ap, sym, ◌∙◌, subst, arith, inl, inr}
 use Rattle.std.specs.Prelude.{◌⊎◌, nat_lt, nat_le, if◌then◌else◌, Option, Some, None, is_some, option_map, IfSome, Result, Ok, Err, IfOk}
 use Rattle.std.proofs.lemmas.Bool.Decides.{nat_tests}
@@ -306,6 +306,6 @@ pub if_none : {X : Type 0} (b : Bool) (o : Option X) → o ≡ None → (if b th
 if_none true o e = e
 if_none false o e = refl
 
--- words that are used one after another
+-- random numbers that are consumed one after another
 pub waits_join : {W : Type 0} (next_word : W → ℕ × W) (t : TimersContent) (from mid to : W) (xs ys all : List Arm) → all ≡ xs ++ ys → WaitsAreChosen next_word t from xs mid → WaitsAreChosen next_word t mid ys to → WaitsAreChosen next_word t from all to
 waits_join next_word t from mid to xs ys all is h k = rw is (record { each = λ c s. chosen-append next_word (low_of c) (high_of c) from mid to xs ys (h.each c s) (k.each c s) })

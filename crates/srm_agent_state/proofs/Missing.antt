@@ -1,4 +1,4 @@
--- What data, repairs and session messages do to the timers: the names that become missing are asked for.
+-- What data, repairs and session messages do to the timers: each name that becomes missing gets a request timer.
 use Rattle.std.proofs.Common.{◌≡◌, ℕ, ◌+◌, ◌*◌, ◌<◌, max, Bool, true, false, not, ◌&&◌, ◌||◌, List, [], ◌∷◌, ◌++◌, map, refl, ap, sym, ◌∙◌, subst, arith}
 use Rattle.std.specs.Prelude.{nat_lt, nat_le, if◌then◌else◌, Option, Some, None, is_some, option_map, option_to_list, unwrap_or}
 use Rattle.std.specs.List.{list_any, flat_map, AllByRecursion}
@@ -143,7 +143,7 @@ fresh_source past e g n h d s m m' =
     let (k, name, same) = fresh_shown past e g n h d m m' is_name (names_spelled g s) in
     subst (λ (t : Stream). t.source < MEMBERS) (sym (same_stream-is n.stream k.stream same)) name.0
 
--- The arms that such an entry holds, where no request is heard: those of the names that become missing.
+-- The arms of such an entry, if it hears no request: those of the names that become missing.
 
 unasked : (c : Config) (past : List Entry) (e : Entry) (n : FullName) → asker n e ≡ None → e.effects.asks ≡ []
     → basis_of c past e n ≡ (if is_held past n then None else option_map (ask_at c (past ++ e ∷ []) n) (if is_missing past n then None else if is_missing (past ++ e ∷ []) n then Some 0 else None))
@@ -204,7 +204,7 @@ arms_right next_word from to c past e g now arms newly_missing dist t h with_ no
   waits = rw with_.arms (chosen_waits next_word c from to arms (drawn.each c (settings_fit c past t h)));
 }
 
--- What it does to the timers, where it gains such names and repairs such names.
+-- What it does to the timers, if it gains such names and repairs such names.
 does_so : (c : Config) (past : List Entry) (e : Entry) (g : Datagram) (now : ℕ) (arms : List Arm) (newly_missing : List FullName) (dist : List ℕ) (gained ended : FullName → Bool) (until : FullName → ℕ)
     → HearsWith g now arms e → ((n : FullName) → asker n e ≡ None) → AreNewlyMissing past e newly_missing → ArmsOfFound newly_missing [] dist arms
     → ((n : FullName) → gains e n ≡ gained n) → ((n : FullName) → repaired n e ≡ ended n)

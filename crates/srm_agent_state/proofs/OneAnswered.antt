@@ -1,4 +1,4 @@
--- One name that a request asks for: the arm that it makes, and the timers behind it.
+-- One name that a request asks for: the timer that it sets, and all timers after it.
 use Rattle.std.proofs.Common.{◌≡◌, ℕ, ◌+◌, ◌<◌, Bool, true, false, not, ◌&&◌, ◌||◌, List, [], ◌∷◌, ◌++◌, take, length, get_or, refl, ap, sym, ◌∙◌, subst, cond, append_assoc}
 use Rattle.std.specs.Prelude.{if◌then◌else◌, Option, Some, None, is_some, option_map, option_to_list, IfSome}
 use Rattle.std.proofs.Math.Bool.{or-false}
@@ -42,7 +42,7 @@ use Rattle.srm_agent_state.proofs.Missing.{no_name}
 use Rattle.srm_agent_state.proofs.RisingNames.{front_below, last_is_new}
 use Rattle.srm_agent_state.proofs.JoinedArms.{arm_of-append, arm_named, joined}
 
--- The arm that a request makes for a name that it asks for, by what the entries before say.
+-- The arm that a request makes for a name that it asks for, after the entries before.
 abbrev pub wanted : Config → List Entry → ℕ → List ℕ → ℕ → FullName → Option WaitBasis
 wanted c past from dist now n =
     if is_held past n
@@ -52,7 +52,7 @@ wanted c past from dist now n =
 abbrev pub asked_if : List FullName → ℕ → FullName → Option ℕ
 asked_if done from n = if among done n then Some from else None
 
--- the middle of a request, where these names were answered
+-- the middle of a request: these names were answered
 pub record AnsweredIn (c : Config) (past : List Entry) (from : ℕ) (dist : List ℕ) (now : ℕ) (done : List FullName) (arms : List Arm) (t : TimersContent) : Type 0 where
   pub mid : Midway c past now arms no_name (asked_if done from) no_name (λ n. 0) t
   pub rising : ascending name_below (arm_names arms) ≡ true
@@ -158,7 +158,7 @@ asker_joins true s from None = refl
 asker_joins false true from None = refl
 asker_joins false false from None = refl
 
--- what stands in the timers for a name that wasn't answered yet
+-- a name that wasn't answered yet has no arm
 unarmed : {c : Config} {past : List Entry} {from : ℕ} {dist : List ℕ} {now : ℕ} {done : List FullName} {arms : List Arm} {t : TimersContent} (n : FullName)
     → AnsweredIn c past from dist now done arms t → among done n ≡ false → arm_of n arms ≡ None
 unarmed {done = done} {arms = arms} n a new = is_none (arm_of n arms) (arm_named n arms ∙ go (among (arm_names arms) n) refl)

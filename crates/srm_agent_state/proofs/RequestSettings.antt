@@ -1,4 +1,4 @@
--- The settings that a request asks for.
+-- Which timers a request sets.
 use Rattle.std.proofs.Common.{◌≡◌, ℕ, ◌≤◌, Bool, true, false, not, ◌&&◌, ◌||◌, List, [], ◌∷◌, ◌++◌, refl, ap, sym, ◌∙◌, subst, arith}
 use Rattle.std.specs.Prelude.{nat_le, if◌then◌else◌, Option, Some, None, is_some, option_map}
 use Rattle.std.proofs.lemmas.Bool.{and_right}
@@ -136,7 +136,7 @@ wanted_known c past from dist now n some = go (is_held past n) refl (is_missing 
     go false h true m = missing_known past n m
     go false h false m = let wrong : true ≡ false = sym some ∙ off h m in absurd (cc)
 
--- a name that becomes missing wants no arm before
+-- a request wants no arm for a name that only becomes missing by it
 pub fresh_unwanted : (c : Config) (past : List Entry) (e : Entry) (from : ℕ) (dist : List ℕ) (now : ℕ) (n : FullName) → is_missing past n ≡ false → is_missing (past ++ e ∷ []) n ≡ true → wanted c past from dist now n ≡ None
 fresh_unwanted c past e from dist now n m m' =
     ap (λ (b : Bool). if b then (if not (is_some (fix_running past n)) && not (held_off c past n now) then Some (fixes.fix_basis (distance_to dist from)) else None)
@@ -147,7 +147,7 @@ fresh_unwanted c past e from dist now n m m' =
     unheld true h = sym m' ∙ held_then past e n h
     unheld false h = refl
 
--- an arm for a request that is wanted is of a name that is missing
+-- a wanted arm of a request timer is of a missing name
 pub ask_wanted : (h m free : Bool) (d d' now : ℕ) (last : Option Armed) (o : Option Arm)
     → option_map wait_basis o ≡ (if h then (if free then Some (fixes.fix_basis d) else None) else option_map (λ i. asks.ask_basis i d') (backs_off now (only_if m last))) → is_some (of_kind Ask o) ≡ true → m ≡ true
 ask_wanted h true free d d' now last o e some = refl

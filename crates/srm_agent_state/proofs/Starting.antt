@@ -1,4 +1,4 @@
--- Timers of which none runs yet.
+-- New timers: none runs.
 use Rattle.std.proofs.Common.{◌≡◌, ℕ, Bool, true, false, [], None, refl, subst}
 use Rattle.srm_timers.specs.AskCalls.{AskContent, AskFits}
 use Rattle.srm_timers.specs.FixCalls.{FixContent, FixFits}
@@ -11,7 +11,7 @@ none_shown : (b : Bool) → None ≡ only_if b None
 none_shown true = refl
 none_shown false = refl
 
--- where no call was made no timer runs
+-- without a call no timer runs
 pub timers_begin : (c : Config) (t : TimersContent) → AskFits c.c1 c.c2 [] t.asks → FixFits c.d1 c.d2 [] t.fixes → TimersFit c [] t
 timers_begin c t asks fixes = record {
   ask_calls = [];

@@ -1,4 +1,4 @@
--- What a store and what is known of the others become as more is heard.
+-- What a store and distances become as more is heard.
 use Rattle.std.specs.Prelude.{ℕ, List, [], ◌++◌, Option, Some, option_map, ◌≡◌, ◌∷◌}
 use Rattle.std.specs.List.{cons_option}
 use Rattle.srm_names.specs.FullName.{FullName}
@@ -19,7 +19,7 @@ pub record LearnsNames (names : List FullName) (old new : StoreContent) : Type 0
   pub finals : new.finals ≡ old.finals
   pub each : (inserted : List Drawop) (evidence : List FullName) (settled : List Settling) → StoreFits inserted evidence settled old → StoreFits inserted (evidence ++ names) settled new
 
--- what is known of the others after a datagram was heard
+-- the distances after a datagram was heard
 pub record HearsToo (me now : ℕ) (g : Datagram) (old new : DistancesContent) : Type 0 where
   pub each : (least : ℕ) (calls : List DistanceCall) → DistancesFit least me calls old → DistancesFit least me (calls ++ calls_of me now (Some g)) new
 
@@ -32,6 +32,6 @@ pub record SettlesToo (leaver : Option ℕ) (rows : List FullName) (old new : St
 pub record LearnsToo (g : Datagram) (old new : StoreContent) : Type 0 where
   pub each : (inserted : List Drawop) (evidence : List FullName) (settled : List Settling) → StoreFits inserted evidence settled old → StoreFits inserted (evidence ++ names_in g) (settled ++ cons_option (settling_of (Some g)) []) new
 
--- a drawop is held, and its name known of
+-- a drawop is held, and its name known to exist
 pub record HoldsToo (d : Drawop) (old new : StoreContent) : Type 0 where
   pub each : (inserted : List Drawop) (evidence : List FullName) (settled : List Settling) → StoreFits inserted evidence settled old → StoreFits (inserted ++ d ∷ []) (evidence ++ d.name ∷ []) settled new

@@ -1,4 +1,4 @@
--- How far the worker of one slot was given things.
+-- How much of its page feed one page slot has given.
 use Rattle.std.specs.Prelude.{◌≡◌, ℕ, ◌<◌, Bool, false, List, [], length, is_some, slice_index, slice_index_or}
 use Rattle.std.specs.List.{list_any}
 use Rattle.srm_names.specs.declared.limits.TheConstants.{MEMBERS}

@@ -1,4 +1,4 @@
--- What the calls of a member's timers say of one more entry, over all runs that they fit.
+-- What the calls of a member's timers say of one more entry, for every run that the timers fit.
 use Rattle.std.specs.Prelude.{◌≡◌, ◌⊎◌, ℕ, ◌<◌, Bool, true, false, not, ◌&&◌, List, [], ◌∷◌, ◌++◌, if◌then◌else◌, Option, Some, None, option_map, option_to_list, IfSome}
 use Rattle.srm_names.specs.declared.limits.TheConstants.{MEMBERS}
 use Rattle.srm_names.specs.FullName.{FullName}
@@ -22,29 +22,29 @@ use Rattle.srm_entries.specs.Timers.{low_of, high_of, last_ask, fix_running, Arm
 use Rattle.srm_entries.specs.Verdicts.{settlings}
 use Rattle.srm_agent_state.specs.TimersKept.{TimersFit, TimersContent, HaveSettings}
 
--- settings and words
+-- settings and random numbers
 
 -- whatever settings these timers have, they still have
 pub record KeepSettings (old new : TimersContent) : Type 0 where
   pub each : (c : Config) → HaveSettings c old → HaveSettings c new
 
--- the waits of the arms are by the next words, one word an arm, in order; no other word is used
+-- the next random numbers choose the waits of the timers, one each, in order; no other is consumed
 pub record WaitsAreChosen {W : Type 0} (next_word : W → ℕ × W) (t : TimersContent) (from : W) (arms : List Arm) (to : W) : Type 0 where
   pub each : (c : Config) → HaveSettings c t → AreChosen next_word (low_of c) (high_of c) from arms to
 
 -- distances
 
--- a table of distances has those after these entries
+-- the table has the distances after these entries
 pub record AreDistancesAfter (c : Config) (es : List Entry) (dist : List ℕ) : Type 0 where
   pub each : (m : ℕ) → m < MEMBERS → distance_to dist m ≡ distance c es m
 
 -- entries
 
--- the names become missing by the entry: they are all that do, in order of name
+-- the names are all that the entry makes missing, in order of name
 abbrev pub AreNewlyMissing : List Entry → Entry → List FullName → Type 0
 AreNewlyMissing past e names = AreExactly (λ n. not (is_missing past n) && is_missing (past ++ e ∷ []) n) names
 
--- a datagram was heard and accepted at a moment, and these timers were set; nothing was handed out
+-- a datagram was heard and accepted at a moment, and these timers were set; nothing was requested or repaired
 pub record HearsWith (g : Datagram) (now : ℕ) (set : List Arm) (e : Entry) : Type 0 where
   pub heard : accepted e ≡ Some g
   pub read : IsSpellable g
@@ -54,7 +54,7 @@ pub record HearsWith (g : Datagram) (now : ℕ) (set : List Arm) (e : Entry) : T
   pub asks : e.effects.asks ≡ []
   pub fixes : e.effects.fixes ≡ []
 
--- a tick at a moment: what was handed out, and which timers were set
+-- a tick at a moment: what was requested and repaired, and which timers were set
 pub record TicksWith (asked repaired : List FullName) (now : ℕ) (set : List Arm) (e : Entry) : Type 0 where
   pub ticked : ticked e ≡ true
   pub heard : accepted e ≡ None
@@ -64,7 +64,7 @@ pub record TicksWith (asked repaired : List FullName) (now : ℕ) (set : List Ar
   pub asks : e.effects.asks ≡ asked
   pub fixes : e.effects.fixes ≡ repaired
 
--- the arms of the entry are right, and the timers fit the run with the entry added
+-- the entry sets the right timers, and the timers fit the run with the entry added
 pub record TimersAdd (c : Config) (past : List Entry) (e : Entry) (new : TimersContent) : Type 0 where
   pub arms : ArmsRight c past e
   pub fits : TimersFit c (past ++ e ∷ []) new
@@ -96,7 +96,7 @@ IsRequestOf from asked _ = ⊥
 pub record TimersStay (old new : TimersContent) : Type 0 where
   pub each : (c : Config) (past : List Entry) → TimersFit c past old → TimersFit c past new
 
--- such a datagram is heard, by which these names become missing; the distances are those after it
+-- such a datagram was heard, and makes these names missing; the distances are those after it
 pub record TimersHear (is : Datagram → Type 0) (newly_missing : List FullName) (dist : List ℕ) (now : ℕ) (arms : List Arm) (old new : TimersContent) : Type 0 where
   pub each : (c : Config) (past : List Entry) (e : Entry) (g : Datagram) → is g → HearsWith g now arms e → TimersFit c past old
       → AreNewlyMissing past e newly_missing → AreDistancesAfter c (past ++ e ∷ []) dist → TimersAdd c past e new
@@ -106,17 +106,17 @@ abbrev pub FixEnds : Bool → ℕ → List ℕ → FullName → FixContent → F
 FixEnds false now dist name old new = new ≡ old
 FixEnds true now dist name old new = FixRepairs now dist (name ∷ []) old new
 
--- a request is heard, over the store as it is before
+-- a request was heard; the store is as it was before
 pub record TimersHearRequest (s : StoreContent) (from : ℕ) (asked newly_missing : List FullName) (dist : List ℕ) (now : ℕ) (arms : List Arm) (old new : TimersContent) : Type 0 where
   pub each : (c : Config) (past : List Entry) (e : Entry) (g : Datagram) → IsRequestOf from asked g → HearsWith g now arms e → TimersFit c past old
       → StoreFits (held past) (evidence_in past) (settlings past) s
       → AreNewlyMissing past e newly_missing → AreDistancesAfter c (past ++ e ∷ []) dist → TimersAdd c past e new
 
--- the names are those whose request timers ran out, in order
+-- the names are those whose request timers have expired, in order
 abbrev pub AreToAsk : ℕ → List Entry → List FullName → Type 0
 AreToAsk now past names = AreExactly (λ n. is_missing past n && ran_out now (last_ask past n)) names
 
--- the names are those whose repair timers ran out, in order
+-- the names are those whose repair timers have expired, in order
 abbrev pub AreToFix : ℕ → List Entry → List FullName → Type 0
 AreToFix now past names = AreExactly (λ n. ran_out now (fix_running past n)) names
 
@@ -126,19 +126,19 @@ pub record AsksRanOut (now : ℕ) (t : TimersContent) (names : List FullName) : 
 pub record FixesRanOut (now : ℕ) (t : TimersContent) (names : List FullName) : Type 0 where
   pub each : (c : Config) (past : List Entry) → TimersFit c past t → AreToFix now past names
 
--- these are the names whose request timers ran out, in order, and each has one
+-- these are the names whose request timers have expired, in order, and each has one
 pub record AreDueAsks (now : ℕ) (t : TimersContent) (names : List FullName) : Type 0 where
   pub due : AskDue now t.asks names
   pub rising : ascending name_below names ≡ true
   pub run : AskTimersRun names t.asks
 
--- and those whose repair timers ran out
+-- and those whose repair timers have expired
 pub record AreDueFixes (now : ℕ) (t : TimersContent) (names : List FullName) : Type 0 where
   pub due : FixDue now t.fixes names
   pub rising : ascending name_below names ≡ true
 
--- One name of a request: who asked is noted. Where the name is held a repair timer is set, where none runs and it isn't held
--- off; where it isn't held its request timer is set again, where one runs and the request isn't ignored.
+-- One name of a request: who asked is noted. A held name gets a repair timer, if none runs and it isn't held off. The request timer of a name
+-- that isn't held is set again, if one runs and the request isn't ignored.
 pub record IsRequestHeard (is_held : Bool) (name : FullName) (from : ℕ) (dist : List ℕ) (now : ℕ) (arm : Option Arm) (old new : TimersContent) : Type 0 where
   pub fixes : FixAdds (Asked name from ∷ (if is_held then sets_fix now (option_to_list arm) else [])) old.fixes new.fixes
   pub asks : AskAdds (if is_held then [] else sets now (option_to_list arm)) old.asks new.asks
@@ -147,7 +147,7 @@ pub record IsRequestHeard (is_held : Bool) (name : FullName) (from : ℕ) (dist 
   pub to_ask : is_held ≡ false → (c1 c2 : ℕ) (calls : List AskCall) → AskFits c1 c2 calls old.asks
       → option_map plan_of arm ≡ option_map (ask_plan name (distance_to dist name.stream.source)) (backs_off now (ask_timer calls name))
 
--- a tick of a member that isn't gone hands out what is due; the distances are those after it
+-- a tick of a member that isn't gone requests and repairs what is due; the distances are those after it
 pub record TimersTick (asks fixes : List FullName) (dist : List ℕ) (now : ℕ) (arms : List Arm) (old new : TimersContent) : Type 0 where
   pub each : (c : Config) (past : List Entry) (e : Entry) → TicksWith asks fixes now arms e → TimersFit c past old → is_gone (state past) ≡ false
       → AreToAsk now past asks → AreToFix now past fixes → AreDistancesAfter c (past ++ e ∷ []) dist → TimersAdd c past e new × TimersRight past e
@@ -156,7 +156,7 @@ abbrev pub IsBefore : ℕ → Option ℕ → Type 0
 IsBefore u None = Unit {0}
 IsBefore u (Some t) = u < t
 
--- the first timer of the names runs out at this moment, and none runs where there is none
+-- the first timer expires at this moment; without a moment no timer ever does
 pub record FirstOfBothRunsOut (past : List Entry) (moment : Option ℕ) : Type 0 where
   pub no_ask : (u : ℕ) → IsBefore u moment → (n : FullName) → ran_out u (ask_running past n) ≡ false
   pub no_fix : (u : ℕ) → IsBefore u moment → (n : FullName) → ran_out u (fix_running past n) ≡ false

@@ -23,7 +23,7 @@ pub record HaveSettings (c : Config) (t : TimersContent) : Type 0 where
   pub d1 : t.fixes.d1 ≡ c.d1
   pub d2 : t.fixes.d2 ≡ c.d2
 
--- The timers are those of the names, by whatever calls they were set: a request timer runs exactly for each missing name.
+-- The timers are those that the entries leave, whatever calls set them: a request timer runs exactly for each missing name.
 pub record TimersFit (c : Config) (past : List Entry) (t : TimersContent) : Type 0 where
   pub ask_calls : List AskCall
   pub asks : AskFits c.c1 c.c2 ask_calls t.asks

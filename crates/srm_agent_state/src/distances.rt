@@ -5,7 +5,7 @@ ghost use Rattle.srm_timers.specs.Distances.{AreDistances};
 
 use srm_distance::Distances;
 
-/// The distance to each member, by its number, in microseconds. It takes no memory.
+/// Returns the distance to each member in microseconds, at most 10,000,000, by the member's number. Takes no memory.
 pub fn distance_table(distances: &Distances) -> &[u64]
     ensures range { AreDistances result.now }
     ensures value { IsTableOf distances.now result.now }

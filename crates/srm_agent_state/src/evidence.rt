@@ -1,4 +1,4 @@
-//! Names that are known to exist by one datagram.
+//! Names that a datagram shows to exist.
 
 ghost use Rattle.std.specs.Prelude.{◌≡◌, ◌≤◌, max, if◌then◌else◌};
 ghost use Rattle.srm_names.specs.declared.limits.TheConstants.{DRAWOPS};
@@ -10,7 +10,7 @@ ghost use Rattle.srm_agent_state.specs.Growth.{LearnsNames};
 use srm_names::{Name, Stream};
 use srm_store::Store;
 
-/// These names, for which there is room, are known to exist from now on. It takes no memory.
+/// Notes that names, for which the store has room, are known to exist. Takes no memory.
 pub fn learn_all(store: &mut Store, names: &[Name])
     requires { HavePlaces names.now store.old }
     ensures { LearnsNames names.now store.old store.new }
@@ -20,7 +20,7 @@ pub fn learn_all(store: &mut Store, names: &[Name])
     }
 }
 
-/// The greatest number of a stream among names, and 0 where there is none.
+/// Returns the greatest number of a stream among names, 1 to 65,536, or 0 if none is of the stream. Takes no memory; looks at each name.
 pub fn greatest_in(names: &[Name], stream: &Stream) -> u32
     ensures value { result ≡ greatest_in names.now stream.now }
     ensures last { result ≤ DRAWOPS }
@@ -32,7 +32,7 @@ pub fn greatest_in(names: &[Name], stream: &Stream) -> u32
     most
 }
 
-/// The greater of a number and that of a name, where the name is of the stream.
+/// Returns the greater of a number and that of a name, if the name is of the stream.
 fn most_with(most: u32, name: Name, stream: &Stream) -> u32
     requires { most ≤ DRAWOPS }
     ensures value { result ≡ max most (if same_stream stream.now name.stream then name.number else 0) }

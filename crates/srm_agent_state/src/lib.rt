@@ -1,16 +1,17 @@
-//! What an agent keeps beside its store, its distances and its bucket, and what these become as more is heard.
+//! An agent's timers and its progress in each page slot, and how its store and distances change by what it hears.
 //!
-//! Each is said over the entries of its member: the timers are those that the entries set, a slot's progress is what they gave.
+//! Contracts speak of the entries of the member: the timers are those that the entries set, and a slot's progress is what they gave.
 //!
-//! It is for `srm_agent` and its neighbours, and nothing else needs it.
+//! It is for `srm_agent`; nothing else needs it.
 //!
 //! ```
 //! let mut timers = Timers::new(alloc, &config);
 //! let (asks, fixes) = (timers.asks_that_ran_out(now)?, timers.fixes_that_ran_out(now)?);
-//! let arms = timers.tick(&asks, &fixes, &distances, now, &mut words)?;
+//! let arms = timers.tick(&asks, &fixes, distance_table(&distances), now, &mut words)?;
 //! ```
 //!
-//! **What is refused.** Timers are refused for want of memory alone, and are then as before.
+//! All times are microseconds. **Errors.** Only calls of [`Timers`] can fail, with `AllocError` if out of memory: no timer has changed then,
+//! and no random number was consumed.
 #![tactic(auto)]
 
 mod distances;

@@ -1,4 +1,4 @@
-//! How far the worker of one slot was given things.
+//! How much of its page feed one page slot has given.
 
 ghost use Rattle.std.specs.Prelude.{◌≡◌, ◌<◌, ◌++◌, List, [], ◌∷◌, true, false, length, slice_index, slice_index_or, slice_set};
 ghost use Rattle.srm_names.specs.declared.limits.TheConstants.{MEMBERS};
@@ -9,14 +9,14 @@ ghost use Rattle.srm_agent_state.specs.Progress.{ProgressFits};
 use srm_names::{MEMBERS, Member, Name, PageMsg};
 use std::marker::Model;
 
-/// What of the messages that a slot was given is needed to know which may come next. The messages themselves aren't kept.
+/// How much of its page feed one page slot has given: what decides which message may come next. The messages aren't kept.
 #[derive(Debug, Drop)]
 pub struct Progress {
     opened: bool,
     closed: bool,
-    /// The number of the last drawop given of each source, and 0 before the first.
+    /// The number of the last drawop given of each source, 0 before the first.
     numbers: [u32; MEMBERS as usize],
-    /// Of which sources the leaving was given.
+    /// Whether the leaving of each source was given.
     left: [bool; MEMBERS as usize],
 }
 
@@ -31,7 +31,7 @@ impl Model for Progress {
 }
 
 impl Progress {
-    /// The progress of a slot that was given nothing.
+    /// Makes the progress of a page slot that has given nothing. Takes no memory.
     pub fn new() -> Progress
         ensures { ProgressFits [] result }
     {
@@ -57,7 +57,7 @@ impl Progress {
         self.closed
     }
 
-    /// The number of the last drawop given of a source, and 0 before the first.
+    /// Returns the number of the last drawop given of a source, 1 to 65,536, or 0 before the first.
     pub fn number(&self, source: Member) -> u32
         ensures value { result ≡ slice_index self.now.numbers source }
         ensures below { source < MEMBERS }
@@ -72,7 +72,7 @@ impl Progress {
         self.left[source.index()]
     }
 
-    /// A message was given that may come next.
+    /// Notes that the slot gave a message, which may come next. Takes no memory.
     pub fn give(&mut self, message: &PageMsg)
         ensures { (given : List APageMsg) → ProgressFits given self.old → continues given message.now ≡ true → ProgressFits (given ++ message.now ∷ []) self.new }
     {
@@ -84,7 +84,7 @@ impl Progress {
         }
     }
 
-    /// The drawop of this name was given: it is the last one of its source.
+    /// Notes that the drawop of this name was given, as the last one of its source.
     fn draw(&mut self, name: Name)
         ensures new { self.new ≡ record self.old { numbers = slice_set self.old.numbers name.stream.source name.number } }
         ensures below { name.stream.source < MEMBERS }

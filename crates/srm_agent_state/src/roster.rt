@@ -1,4 +1,4 @@
-//! The members of a session by their numbers.
+//! Members by their numbers, and which ranges their types promise.
 
 ghost use Rattle.std.specs.Prelude.{◌≡◌, ◌<◌};
 ghost use Rattle.srm_names.specs.declared.limits.TheConstants.{MEMBERS};
@@ -6,7 +6,7 @@ ghost use Rattle.srm_codec.specs.Spelling.{is_page};
 
 use srm_names::{Member, Page, Stream};
 
-/// The member with a number below the limit.
+/// Returns the member with a number below 32.
 pub fn member(number: u8) -> Member
     requires { number < MEMBERS }
     ensures { result ≡ number }
@@ -14,14 +14,16 @@ pub fn member(number: u8) -> Member
     Member::new(number).unwrap()
 }
 
-/// Does nothing. By its type a page is one that a datagram can name.
+/// Tells proofs that a datagram can name this page, as its type promises. It does nothing when it runs, and is public only for proofs of
+/// `srm_agent`.
 pub fn page_in_range(page: Page)
     ensures { is_page page }
 {
     let _ = page.creator.number();
 }
 
-/// Does nothing. By its type a stream is one that a datagram can name.
+/// Tells proofs that a datagram can name this stream, as its type promises. It does nothing when it runs, and is public only for proofs of
+/// `srm_agent`.
 pub fn stream_in_range(stream: &Stream)
     ensures source { stream.now.source < MEMBERS }
     ensures page { is_page stream.now.page }

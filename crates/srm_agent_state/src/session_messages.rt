@@ -1,4 +1,4 @@
-//! What session messages say of the others and of what exists.
+//! What a session message says of other members, and of the drawops that exist.
 
 ghost use Rattle.std.specs.Prelude.{◌≡◌, Some, option_map, length};
 ghost use Rattle.srm_codec.specs.Spelling.{IsSpellable, names_in};
@@ -13,7 +13,8 @@ use srm_distance::Distances;
 use srm_names::{Echo, Member, Name};
 use srm_store::Store;
 
-/// A datagram was heard at a moment, by which more is known of the others: session messages change it alone. It takes no memory.
+/// Notes in the distances of member `me` a datagram that it heard at `now`, in microseconds: a session message with its echo, and of a
+/// farewell that its sender left. Other datagrams change nothing. Takes no memory.
 pub fn hear_session_message(distances: &mut Distances, me: Member, datagram: &Datagram, now: u64)
     requires { IsSpellable datagram.now }
     ensures { HearsToo me now datagram.now distances.old distances.new }
@@ -33,7 +34,7 @@ pub fn hear_session_message(distances: &mut Distances, me: Member, datagram: &Da
     }
 }
 
-/// The echo for a member: the moment that it answers, and how long it waited.
+/// Returns the first echo for a member: the moment that it returns, and how long the other member had it.
 fn echo_for(echoes: &[Echo], me: &Member) -> Option<(u64, u64)>
     ensures { result ≡ echo_for me.now echoes.now }
 {
@@ -41,8 +42,8 @@ fn echo_for(echoes: &[Echo], me: &Member) -> Option<(u64, u64)>
     Some((echo.t1, echo.delay))
 }
 
-/// The names of a datagram, for which there is room, are known to exist from now on, and a farewell settles its sender. It
-/// takes no memory.
+/// Notes that the names of a datagram, for which the store has room, are known to exist, and by a farewell how far its sender's streams go.
+/// Takes no memory.
 pub fn learn_datagram(store: &mut Store, datagram: &Datagram, names: &[Name])
     requires names { names.now ≡ names_in datagram.now }
     requires ready { HavePlaces names.now store.old }
@@ -52,7 +53,7 @@ pub fn learn_datagram(store: &mut Store, datagram: &Datagram, names: &[Name])
     settle(store, leaver(datagram), names);
 }
 
-/// The sender of a farewell.
+/// Returns the sender of a farewell; of another datagram `None`.
 fn leaver(datagram: &Datagram) -> Option<Member>
     ensures { settling_of (Some datagram.now) ≡ option_map (λ m. record { member = m; rows = names_in datagram.now }) result }
 {
@@ -66,7 +67,7 @@ fn leaver(datagram: &Datagram) -> Option<Member>
     }
 }
 
-/// The streams of a member that left, if one did, go as far as these rows say from now on.
+/// Notes that the streams of a member that left, if one did, go as far as these rows say.
 fn settle(store: &mut Store, leaver: Option<Member>, rows: &[Name])
     requires { IsReadyToSettle (length rows.now) store.old }
     ensures { SettlesToo leaver rows.now store.old store.new }

@@ -22,7 +22,8 @@ use std::marker::Model;
 
 /// The request and repair timers of one member, as its entries leave them. Contracts see both.
 ///
-/// A call that is refused for memory has changed nothing and used no word. Moments and distances are microseconds.
+/// Moments are microseconds, at most 2^48, and distances microseconds, at most 10,000,000, by the member's number. After an error no timer
+/// has changed, and no random number was consumed.
 #[derive(Drop)]
 pub struct Timers {
     alloc: Global,
@@ -39,7 +40,7 @@ impl Model for Timers {
 }
 
 impl Timers {
-    /// No timer runs. It takes no memory.
+    /// Makes the timers of a member with these settings. None runs. Takes no memory.
     pub fn new(alloc: Global, config: &Config) -> Timers
         ensures fits { TimersFit config.now [] result }
         ensures settings { HaveSettings config.now result }
@@ -51,8 +52,9 @@ impl Timers {
         }
     }
 
-    /// The missing names whose request timers have run out, in order of name: those that a tick asks for. Only want of
-    /// memory refuses it.
+    /// Returns the missing names whose request timers have expired at `now`, in order of name: those that a tick requests.
+    ///
+    /// Fails only if out of memory.
     #[tactic(auto, using(crate::proofs::Midway::asks_pending, crate::proofs::Midway::asks_due))]
     pub fn asks_that_ran_out(&self, now: u64) -> Result<Vec<Name>, AllocError>
         ensures pending { IfOk result (λ names. AsksRanOut now self.now names.items) }
@@ -64,8 +66,9 @@ impl Timers {
         self.asks.pending(now, names)
     }
 
-    /// The names whose repair timers have run out, in order of name: those that a tick repairs. Only want of memory
-    /// refuses it.
+    /// Returns the names whose repair timers have expired at `now`, in order of name: those that a tick repairs.
+    ///
+    /// Fails only if out of memory.
     #[tactic(auto, using(crate::proofs::Midway::fixes_pending, crate::proofs::Midway::fixes_due))]
     pub fn fixes_that_ran_out(&self, now: u64) -> Result<Vec<Name>, AllocError>
         ensures pending { IfOk result (λ names. FixesRanOut now self.now names.items) }
@@ -76,8 +79,8 @@ impl Timers {
         self.fixes.pending(now, names)
     }
 
-    /// Names were found missing, which rise: their request timers are set. The exponent is 1 for a name among `asked`, and
-    /// else 0.
+    /// Sets request timers for names, which rise, that were found missing, and returns them. The exponent is 1 for a name among `asked`, else
+    /// 0. Consumes one random number for each.
     #[tactic(auto, using(crate::proofs::Midway::asks_stay, crate::proofs::Midway::waits_drawn, crate::proofs::RequestTimers::found_fits))]
     fn detect<W: Words>(
         &mut self,
@@ -104,7 +107,7 @@ impl Timers {
         Ok(arms)
     }
 
-    /// The least moment at which a timer runs out. Takes no memory.
+    /// Returns the first moment at which a timer expires; `None` if none runs. Takes no memory.
     #[tactic(auto, using(crate::proofs::Midway::first_of_both))]
     pub fn next_moment(&self) -> Option<u64>
         ensures { TimersNext self.now result }

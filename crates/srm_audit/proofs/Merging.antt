@@ -1,4 +1,4 @@
--- Journals that are put into one order, entry by entry.
+-- Merging journals into one order, entry by entry.
 use Rattle.std.proofs.Common.{◌≡◌, ◌≢◌, ℕ, zero, suc, ◌+◌, ◌≤◌, ◌<◌, Bool, true, false, ◌||◌, List, [], ◌∷◌, ◌++◌, length, get_or, refl, ap, sym, ◌∙◌, subst, inl, inr, arith, append_assoc, length-set}
 use Rattle.std.specs.Prelude.{◌⊎◌, Option, Some, None, slice_get, slice_set, IfSome, MatchBool, Contains}
 use Rattle.std.specs.List.{AllByRecursion}

@@ -1,4 +1,4 @@
--- Journals taken apart, and put into one order.
+-- Taking journals apart, and merging them into one order.
 use Rattle.std.proofs.Common.{◌≡◌, ℕ, zero, suc, ◌+◌, ◌≤◌, ◌<◌, List, [], ◌∷◌, ◌++◌, length, map, take, drop, refl, ap, sym, ◌∙◌, subst, inl, inr, arith, append_assoc}
 use Rattle.std.specs.Prelude.{Result, Ok, Err, IfErr, Option, Some, None, option_map, unwrap_or, slice_get, IfSome, IsSome}
 use Rattle.std.specs.List.{AllByRecursion}
@@ -63,7 +63,7 @@ opened_more all old rest j start entries queue starts starts' queues queues' h s
 pub opened_readable : (all old rest : List Journal) (j : Journal) (entries : List Entry) (starts : List Start) (queues : List (List Entry)) → Opened all old starts queues → old ≡ j ∷ rest → entries ≡ j.entries → AreReadable entries
 opened_readable all old rest j entries starts queues h split are = subst AreReadable (sym are) (readable j (subst (AllByRecursion IsLawfulJournal) split h.known).0)
 
--- where they stand in order, nothing was put into the order yet
+-- at the start no entry is merged yet
 
 queue_at : (q : List Journal) (k : ℕ) (rest : List Entry) → slice_get (map (λ (j : Journal). j.entries) q) k ≡ Some rest → rest ≡ entries_at q k
 queue_at q k rest at = sym (ap (λ (o : Option (List Entry)). unwrap_or o []) (sym (slice_get-map (λ (j : Journal). j.entries) q k) ∙ at))
@@ -163,7 +163,7 @@ refuses starts old new place mismatch stops first (a, at, is) = subst (Refuses s
 pub in_starts : (starts : List Start) (old new : MergingContent) (place : ℕ) → length starts ≡ length old.queues → Stops old new → IsFirstNonEmpty new.queues place → place < length starts
 in_starts starts old new place same stops first = let l = slice_get_within new.queues place first.queue first.at in let k = stops.keeps.count in omega (arith, l, k, same)
 
--- what the parts answered
+-- what the parts returned
 
 pub foreign_at : (q : List Journal) (gots : List Got) (place : ℕ) (mismatch : Mismatch) → IsFirstForeign q gots place → IsForeignAt gots place mismatch → IsRefusedInOrder q gots mismatch
 foreign_at q gots place mismatch first (got, at, is) =

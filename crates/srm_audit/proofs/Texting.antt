@@ -1,4 +1,4 @@
--- What is known of the datagrams that were sent, by their bytes.
+-- Finding the datagrams that were sent by their bytes.
 use Rattle.std.proofs.Common.{◌≡◌, ℕ, ◌+◌, ◌≤◌, ◌<◌, Bool, true, false, ◌||◌, List, [], ◌∷◌, ◌++◌, length, take, get_or, refl, ap, sym, ◌∙◌, subst, inl, inr, append_assoc, lit<}
 use Rattle.std.specs.Prelude.{◌⊎◌, map, not, MatchBool, Contains}
 use Rattle.std.specs.List.{list_any, AllByRecursion}

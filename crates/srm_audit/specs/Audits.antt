@@ -1,4 +1,4 @@
--- What journals and what was taken are to one trace of all members.
+-- When journals, and what page workers took, are those of one trace of all members.
 use Rattle.std.specs.Prelude.{◌≡◌, ℕ, ◌==◌, ◌<◌, ◌≤◌, Bool, false, ◌&&◌, if◌then◌else◌, List, ◌∷◌, [], ◌++◌, length, map, slice_get, Option, Some, None, option_map, unwrap_or, IfSome, IsSome}
 use Rattle.std.specs.List.{flat_map, list_any, AllByRecursion}
 use Rattle.std.specs.List.Sorted.{IsPermutation}
@@ -25,30 +25,31 @@ pub record InOrder (js q : List Journal) : Type 0 where
   pub same : IsPermutation js q
   pub roster : IsRoster (starts_of q)
 
--- the journal of a member, and nothing where there is none
+-- the entries in the journal of a member; none if there is no journal
 abbrev pub entries_at : List Journal → ℕ → List Entry
 entries_at q m = unwrap_or (option_map (λ (j : Journal). j.entries) (slice_get q m)) []
 
--- the entries of each member are the first of its journal, so there are no others
+-- the entries of each member are the first ones of its journal, and there are no others
 pub record ArePrefixes (q : List Journal) (es : List Entry) : Type 0 where
   pub each : (m : ℕ) → IsPrefix (of_member m es) (entries_at q m)
 
--- what comes next in a member's journal
+-- the next entry of a member's journal
 abbrev pub next_entry_of : List Journal → List Entry → ℕ → Option Entry
 next_entry_of q es m = slice_get (entries_at q m) (length (of_member m es))
 
--- the entry hears a datagram that wasn't sent in these
+-- the entry hears a datagram that these entries didn't send
 abbrev pub HearsUnsent : List Entry → Entry → Type 0
 HearsUnsent es e = HearsOther (sent es) e
 
--- Prefixes of the journals, in an honest order, that lead no further: what comes next in each, if anything does, hears a datagram
--- that they didn't send.
+-- Prefixes of the journals, in an honest order, that are stuck: the next entry of each, if there is one, hears a datagram that they
+-- didn't send.
 pub record AreStuck (q : List Journal) (es : List Entry) : Type 0 where
   pub prefixes : ArePrefixes q es
   pub honest : IsHonest es
   pub waits : (m : ℕ) → IfSome (next_entry_of q es m) (HearsUnsent es)
 
--- so it is where the smallest member of which an entry is left is this one, after so many
+-- Some order of the journals is stuck. This is the smallest member that has an entry left then, and so many of its entries are in the
+-- order.
 pub record IsUnsent (q : List Journal) (member entry : ℕ) : Type 0 where
   pub es : List Entry
   pub stuck : AreStuck q es
@@ -66,18 +67,18 @@ StuckLaw = (q : List Journal) (es : List Entry) → AreStuck q es → (m : ℕ) 
 abbrev pub UnsentLaw : Type 0
 UnsentLaw = (q : List Journal) (member entry : ℕ) → IsUnsent q member entry → HasNoMore q member entry
 
--- no honest order has the journals whole
+-- no honest order has all entries of the journals
 abbrev pub HasNoOrder : List Journal → Type 0
 HasNoOrder q = (es : List Entry) → IsHonest es → ¬ ((m : ℕ) → of_member m es ≡ entries_at q m)
 
 abbrev pub NoOrderLaw : Type 0
 NoOrderLaw = (q : List Journal) (member entry : ℕ) → IsUnsent q member entry → HasNoOrder q
 
--- two entries that can be told as unsent are one
+-- only one entry can be named as unsent
 abbrev pub OneUnsentLaw : Type 0
 OneUnsentLaw = (q : List Journal) (member entry other number : ℕ) → IsUnsent q member entry → IsUnsent q other number → (other ≡ member) × (number ≡ entry)
 
--- what was taken in this slot of this member
+-- the list is of this slot of this member
 abbrev pub is_of : ℕ → ℕ → Got → Bool
 is_of m j got = (got.member == m) && (got.slot == j)
 
@@ -102,7 +103,7 @@ pub record IsForeign (q : List Journal) (gots : List Got) (member slot : ℕ) : 
   pub member_is : got.member ≡ member
   pub slot_is : got.slot ≡ slot
 
--- whose entry it is, of which input, and with which message
+-- an entry's member, input and message
 abbrev pub outline : Entry → ℕ × Input × Option PageMsg
 outline e = (e.member, e.input, e.effects.message)
 
@@ -114,8 +115,8 @@ takes_of got = map (λ m. (got.member, Took got.slot, Some m)) got.list
 abbrev pub listed : List Got → ℕ → ℕ → List PageMsg
 listed gots m j = flat_map (λ got. if is_of m j got then got.list else []) gots
 
--- The members of the trace began as the journals say. Its entries are those of the journals, each in its order, and then the takes of
--- each list, in order. No journal has a take, so there are no others.
+-- The members of the trace began as the journals say. Its entries are those of the journals, each member's in order, and then the takes
+-- of each list, in order. No journal has a take, so there are no others.
 pub record Assembles (q : List Journal) (gots : List Got) (t : Trace) : Type 0 where
   pub starts : t.starts ≡ starts_of q
   pub calls : List Entry
@@ -125,15 +126,15 @@ pub record Assembles (q : List Journal) (gots : List Got) (t : Trace) : Type 0 w
   pub lists : map outline takes ≡ flat_map takes_of gots
   pub taken : (m j : ℕ) → taken_by t.entries m j ≡ listed gots m j
 
--- the journals, in order of member, and the lists are those of the trace
+-- the trace is made of the journals, in order of member, and of the lists
 pub record AreAccountedBy (js : List Journal) (gots : List Got) (t : Trace) : Type 0 where
   pub order : List Journal
   pub in_order : InOrder js order
   pub found : AreFound order gots
   pub assembles : Assembles order gots t
 
--- Why journals and lists are refused. Want of memory takes neither of the first two's place: where it is told, the roster is right and all
--- lists are found.
+-- Why journals and lists don't match. `Memory` takes the place of neither `Roster` nor `Foreign`: if it is returned, the roster is right
+-- and all lists are found.
 abbrev pub IsRefused : List Journal → List Got → Mismatch → Type 0
 IsRefused js gots Roster = (q : List Journal) → ¬ (InOrder js q)
 IsRefused js gots (Foreign member slot) = (q : List Journal) × InOrder js q × IsForeign q gots member slot

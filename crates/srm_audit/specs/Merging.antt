@@ -1,4 +1,4 @@
--- Journals while they are put into one order.
+-- Journals while they are merged into one order.
 use Rattle.std.specs.Prelude.{◌≡◌, ℕ, ◌+◌, ◌≤◌, ◌<◌, Bool, false, List, [], ◌∷◌, ◌++◌, length, map, take, slice_get, slice_set, if◌then◌else◌, Some, IfSome, MatchBool}
 use Rattle.std.specs.List.{AllByRecursion}
 use Rattle.srm_entries.specs.declared.entry.Entry.{Entry}
@@ -26,7 +26,8 @@ abbrev pub entries_remaining : List (List Entry) → ℕ
 entries_remaining [] = 0
 entries_remaining (es ∷ rest) = length es + entries_remaining rest
 
--- These are the journals: of each, the entries so far and then what is left. The order is honest, and what it sent is known.
+-- The merge is of these journals: the entries of a member so far, and then what is left, are its journal. The order is honest, and what
+-- it sent is known.
 pub record Merges (q : List Journal) (m : MergingContent) : Type 0 where
   pub count : length m.queues ≡ length q
   pub own : (k : ℕ) → AllByRecursion (λ (e : Entry). e.member ≡ k) (entries_at q k)
@@ -35,12 +36,12 @@ pub record Merges (q : List Journal) (m : MergingContent) : Type 0 where
   pub honest : IsHonest m.entries
   pub knows : Knows (sent m.entries) m.spellings
 
--- whatever journals they were, they still are
+-- the merge is still of the same journals, whichever they are
 pub record KeepsJournals (old new : MergingContent) : Type 0 where
   pub each : (q : List Journal) → Merges q old → Merges q new
   pub count : length new.queues ≡ length old.queues
 
--- the next entry of a member went to the end of the order
+-- the next entry of a member has moved to the end of the order
 pub record Advances (member : ℕ) (old new : MergingContent) : Type 0 where
   pub entry : Entry
   pub rest : List Entry
@@ -50,7 +51,7 @@ pub record Advances (member : ℕ) (old new : MergingContent) : Type 0 where
   pub hears : HearsSent old.spellings entry
   pub learns : Learns entry.effects.outs old.spellings new.spellings
 
--- nothing is left of a member, or what comes next hears what wasn't sent
+-- no entry of a member is left, or its next one hears what wasn't sent
 pub record IsStalled (m : MergingContent) (member : ℕ) : Type 0 where
   pub queue : List Entry
   pub at : slice_get m.queues member ≡ Some queue
@@ -69,7 +70,7 @@ pub record Moves (old new : MergingContent) : Type 0 where
 abbrev pub TriesMember : ℕ → MergingContent → MergingContent → Bool → Type 0
 TriesMember member old new moved = MatchBool moved (Moves old new) ((new ≡ old) × IsStalled old member)
 
--- the members up to here were tried, and whether any of them went on
+-- the members below this number were tried, and whether any of them went on
 pub record Tries (count : ℕ) (old new : MergingContent) (moved : Bool) : Type 0 where
   pub keeps : KeepsJournals old new
   pub less : entries_remaining new.queues + (if moved then 1 else 0) ≤ entries_remaining old.queues
@@ -84,24 +85,24 @@ pub record Stops (old new : MergingContent) : Type 0 where
 abbrev pub IsEmptied : List Entry → Type 0
 IsEmptied queue = queue ≡ []
 
--- the queue at the place is the first in which something is left
+-- the queue at the place is the first that isn't empty
 pub record IsFirstNonEmpty (queues : List (List Entry)) (place : ℕ) : Type 0 where
   pub queue : List Entry
   pub at : slice_get queues place ≡ Some queue
   pub left : 0 < length queue
   pub emptied : AllByRecursion IsEmptied (take place queues)
 
--- the journals in one order, whole
+-- all entries of the journals in one honest order
 pub record Completes (q : List Journal) (es : List Entry) : Type 0 where
   pub each : (k : ℕ) → of_member k es ≡ entries_at q k
   pub inside : AllByRecursion (λ (e : Entry). e.member < length q) es
   pub honest : IsHonest es
 
--- whatever journals they were, these are they
+-- whichever journals the merge is of, these are all their entries
 pub record Orders (old : MergingContent) (es : List Entry) : Type 0 where
   pub each : (q : List Journal) → Merges q old → Completes q es
 
--- whatever journals they were, in order, they lead no further than here
+-- whichever journals the merge is of, in order of member, they are stuck at this entry
 pub record LeadNoFurther (starts : List Start) (old : MergingContent) (member entry : ℕ) : Type 0 where
   pub each : (q : List Journal) → Merges q old → starts ≡ starts_of q → IsRoster starts → IsUnsent q member entry
 
@@ -110,7 +111,7 @@ Refuses starts old (Unsent member entry) = LeadNoFurther starts old member entry
 Refuses starts old Memory = Unit {0}
 Refuses starts old _ = ⊥
 
--- the journals stand in the queues, and nothing else was done
+-- the journals are in the queues, and none of their entries is merged yet
 pub record Opens (q : List Journal) (m : MergingContent) : Type 0 where
   pub queues : m.queues ≡ map (λ (j : Journal). j.entries) q
   pub entries : m.entries ≡ []

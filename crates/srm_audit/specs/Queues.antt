@@ -7,7 +7,7 @@ use Rattle.srm_entries.specs.declared.entry.Entry.{Entry}
 use Rattle.srm_entries.specs.Entries.{accepted}
 use Rattle.srm_audit.specs.Spellings.{spelling_of, Knows, HearsOther}
 
--- what the entry sends and hears has a spelling
+-- what the entry sends and hears can be encoded
 pub record IsReadable (e : Entry) : Type 0 where
   pub outs : AllByRecursion IsSpellable e.effects.outs
   pub read : IfSome (accepted e) IsSpellable
@@ -24,20 +24,20 @@ pub record IsQueue (entries : List Entry) (text : List ℕ) : Type 0 where
   pub readable : AreReadable entries
   pub kept : 0 < length text → IfSome (slice_get entries 0) (HearsText text)
 
--- whatever was sent of which these are the texts, the entry hears nothing, or what was sent
+-- if these are the bytes of what was sent, the entry hears nothing, or a datagram that was sent
 abbrev pub HearsSent : List (List ℕ) → Entry → Type 0
 HearsSent spellings e = (gs : List Datagram) → Knows gs spellings → IfSome (accepted e) (Contains gs)
 
--- it hears what wasn't
+-- the entry hears a datagram that wasn't sent
 abbrev pub HearsUnknown : List (List ℕ) → Entry → Type 0
 HearsUnknown spellings e = (gs : List Datagram) → Knows gs spellings → HearsOther gs e
 
--- whether an entry comes next that can go
+-- whether there is a next entry, and it can go
 abbrev pub MayGo : List (List ℕ) → List Entry → Bool → Type 0
 MayGo spellings entries true = (e : Entry) × (slice_get entries 0 ≡ Some e) × HearsSent spellings e
 MayGo spellings entries false = IfSome (slice_get entries 0) (HearsUnknown spellings)
 
--- the entry was taken, and it could go; or nothing was, as none could
+-- the first entry could go, and was taken out; or none could, and nothing changed
 abbrev pub PopsReady : List (List ℕ) → List Entry → List Entry → Option Entry → Type 0
 PopsReady spellings old new (Some e) = (old ≡ e ∷ new) × HearsSent spellings e × IsReadable e
 PopsReady spellings old new None = (new ≡ old) × MayGo spellings old false

@@ -8,7 +8,7 @@ use Rattle.srm_entries.specs.declared.entry.Entry.{Entry}
 use Rattle.srm_entries.specs.Entries.{accepted}
 use Rattle.srm_audit.specs.declared.spellings.TheConstants.{ANY_SESSION}
 
--- the bytes by which a datagram is known
+-- the bytes that stand for a datagram
 abbrev pub spelling_of : Datagram → List ℕ
 spelling_of g = spelling ANY_SESSION g
 
@@ -16,11 +16,11 @@ spelling_of g = spelling ANY_SESSION g
 abbrev pub is_spelling : List (List ℕ) → List ℕ → Bool
 is_spelling spellings bytes = list_any (bytes_eq bytes) spellings
 
--- of the datagrams that have a spelling, these were sent
+-- these are the bytes of the datagrams gs, as far as they can be encoded
 pub record Knows (gs : List Datagram) (spellings : List (List ℕ)) : Type 0 where
   pub each : (g : Datagram) → IsSpellable g → (is_spelling spellings (spelling_of g) ≡ true) ↔ Contains gs g
 
--- whatever was sent before, these were sent after it
+-- the set has these datagrams more, whatever it had before
 pub record Learns (more : List Datagram) (old new : List (List ℕ)) : Type 0 where
   pub each : (gs : List Datagram) → Knows gs old → Knows (gs ++ more) new
 

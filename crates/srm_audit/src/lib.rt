@@ -1,8 +1,9 @@
-//! Journals of one session, put together into one honest run.
+//! Checks the journals of all members of a session against each other.
 //!
-//! Each member's [`Journal`](srm_world::Journal) is a run of it, whatever came to it; that what it heard was sent by the others, no member can
-//! know. [`reconcile`] tells: where it answers a trace, the members did just that, as one honest run, and what the page workers took
-//! of each source was drawn by it. Where it answers [`Mismatch::Unsent`], no honest run has that entry ([`never_reached`]).
+//! Each member's [`Journal`](srm_world::Journal) is a run of it, whatever came to it. No member can know whether the others sent what it
+//! heard: [`reconcile`] finds out. It puts the journals together into one honest run of all members, if there is one. What the page
+//! workers took of each source was then drawn by it. If it returns [`Mismatch::Unsent`], no honest run has that entry
+//! ([`never_reached`]).
 //!
 //! ```
 //! let mut journals = Vec::new(alloc);

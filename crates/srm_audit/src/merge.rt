@@ -1,4 +1,4 @@
-//! Journals, while they are put into one order.
+//! Merging journals into one order.
 
 ghost use Rattle.std.specs.Prelude.{◌≡◌, ◌<◌, ◌||◌, length, IfOk, IfErr, MatchOption, OnOk};
 ghost use Rattle.std.specs.List.{AllByRecursion};
@@ -13,8 +13,7 @@ use srm_world::Start;
 use std::alloc::{AllocError, Global};
 use std::marker::Model;
 
-/// What is left of each member's journal, and the entries that were put into one order. Each of these hears only what those before it
-/// sent.
+/// What is left of each member's journal, and the entries that are in order so far. Each of these hears only what those before it sent.
 #[derive(Drop)]
 pub struct Merge {
     pub(crate) queues: Vec<Queue>,
@@ -31,7 +30,8 @@ impl Model for Merge {
 }
 
 impl Merge {
-    /// The next entry of a member goes to the end of the order, unless there is none or it hears what wasn't sent.
+    /// Moves the next entry of a member to the end of the order, unless there is none or it hears what wasn't sent. Returns whether it
+    /// did.
     fn advance(&mut self, alloc: Global, member: usize) -> Result<bool, AllocError>
         requires { member < length self.old.queues }
         ensures { IfOk result (TriesOne member self.old self.new) }
@@ -45,7 +45,7 @@ impl Merge {
         Ok(true)
     }
 
-    /// A member goes on as far as it can. Answers whether it did at all.
+    /// Moves entries of a member as long as it can. Returns whether it moved any.
     fn go_on(&mut self, alloc: Global, member: usize) -> Result<bool, AllocError>
         requires { member < length self.old.queues }
         ensures { IfOk result (TriesMember member self.old self.new) }
@@ -57,7 +57,7 @@ impl Merge {
         Ok(moved)
     }
 
-    /// Each member goes on as far as it can. Answers whether any did at all.
+    /// Moves entries of each member in turn as long as it can. Returns whether it moved any.
     fn try_each(&mut self, alloc: Global) -> Result<bool, AllocError>
         ensures { IfOk result (Tries (length self.old.queues) self.old self.new) }
     {
@@ -70,7 +70,9 @@ impl Merge {
         Ok(moved)
     }
 
-    /// The journals in one order, whole. Where they lead no further, it answers which entry hears what wasn't sent.
+    /// Returns all entries of the journals in one order.
+    ///
+    /// Fails with [`Mismatch::Unsent`] if no journal leads further, and with [`Mismatch::Memory`].
     pub fn order(self, alloc: Global, starts: &[Start]) -> Result<Vec<Entry>, Mismatch>
         requires { length starts.now ≡ length self.queues }
         ensures ok { IfOk result (λ es. Orders self es.items) }
@@ -84,7 +86,7 @@ impl Merge {
         Err(unsent_at(starts, &merge.entries, place))
     }
 
-    /// All members go on until none can.
+    /// Moves entries until no member has one that can go.
     fn run(&mut self, alloc: Global) -> Result<(), AllocError>
         ensures { OnOk result (Stops self.old self.new) }
     {
@@ -93,7 +95,7 @@ impl Merge {
     }
 }
 
-/// The place of the first queue in which something is left.
+/// The place of the first queue that isn't empty.
 fn first_non_empty(queues: &[Queue]) -> Option<usize>
     ensures { MatchOption result (AllByRecursion IsEmptied queues.now) (IsFirstNonEmpty queues.now) }
 {
@@ -105,7 +107,7 @@ fn first_non_empty(queues: &[Queue]) -> Option<usize>
     None
 }
 
-/// The next entry of a member, after these of it.
+/// The mismatch that names the next entry of a member, after those of it that are in order.
 fn unsent_at(starts: &[Start], entries: &[Entry], member: usize) -> Mismatch
     requires { member < length starts.now }
     ensures { IsUnsentAt starts.now entries.now member result }

@@ -1,4 +1,4 @@
-//! Why journals can't be put together.
+//! Why journals don't match.
 
 ghost use Rattle.std.specs.Prelude.{◌≡◌};
 ghost use Rattle.srm_audit.specs.declared.mismatch.Mismatch.TheVariants.{Memory};
@@ -8,17 +8,18 @@ use srm_names::Member;
 use std::alloc::AllocError;
 use thiserror::Error;
 
-/// Why journals and what was taken aren't those of one honest run. Where several hold, it is the first of Roster, Foreign and Unsent.
+/// Why journals and what the page workers took aren't those of one honest run. If several hold, it is the first of Roster, Foreign and
+/// Unsent.
 #[derive(Clone, Copy, Debug, PartialEq, Eq, Error)]
 pub enum Mismatch {
-    /// No order of the journals leads further: the entry of this member, counted from 0, hears a datagram that nobody sent before.
+    /// The entry of this member, counted from 0, hears a datagram that nobody can have sent before it.
     #[error("an entry hears what nobody sent before")]
     Unsent { member: Member, entry: usize },
-    /// The list of this slot names no member of the roster or no slot, is there a second time, or isn't what the journal of its member gave there
-    /// first.
+    /// The list of this slot of this member isn't found: the member isn't in the roster, the slot doesn't exist, an earlier list has the
+    /// same, or the list isn't a prefix of what the member gave there.
     #[error("what was taken isn't what was given")]
     Foreign { member: Member, slot: u8 },
-    /// Memory ran out.
+    /// Out of memory. It comes after Roster and Foreign, and may come in place of Unsent.
     #[error("out of memory")]
     Memory,
     /// The journals aren't one for each member of one roster in one session.
@@ -27,7 +28,7 @@ pub enum Mismatch {
 }
 
 impl Mismatch {
-    /// The number by which a program may tell it, from 1 to 4.
+    /// Returns its number, 1 to 4, for programs that tell mismatches apart.
     pub fn number(self) -> u8
         ensures { result ≡ number_of self }
     {

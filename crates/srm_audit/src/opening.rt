@@ -1,4 +1,4 @@
-//! Journals taken apart.
+//! Taking journals apart.
 
 ghost use Rattle.std.specs.Prelude.{◌≡◌, IfOk};
 ghost use Rattle.std.specs.List.{AllByRecursion};
@@ -12,7 +12,7 @@ use crate::spellings::Spellings;
 use srm_world::{Journal, Start};
 use std::alloc::{AllocError, Global};
 
-/// Each of the journals is a run of its member without takes, as its type says. It does nothing.
+/// States that each of the journals is a run of its member without takes, which its type guarantees. Changes nothing.
 pub fn know(journals: &[Journal])
     ensures { AllByRecursion IsLawfulJournal journals.now }
 {
@@ -21,7 +21,7 @@ pub fn know(journals: &[Journal])
     }
 }
 
-/// How the members began, and their entries, none of which is in order yet. Only want of memory refuses it.
+/// Returns how the members began, and their entries, none of them merged yet. Fails only if out of memory.
 pub fn open(alloc: Global, journals: Vec<Journal>) -> Result<(Vec<Start>, Merge), AllocError>
     requires { AllByRecursion IsLawfulJournal journals.items }
     ensures starts { IfOk result (λ opened. opened.0.items ≡ starts_of journals.items) }

@@ -12,11 +12,11 @@ use std::alloc::{AllocError, Global};
 use std::collections::VecDeque;
 use std::marker::Model;
 
-/// Entries in order, of which the first goes first. Contracts see the list.
+/// The entries of a journal that aren't merged yet, oldest first. Contracts see the list.
 #[derive(Drop)]
 pub struct Queue {
     pub(crate) entries: VecDeque<Entry>,
-    /// The bytes of what the first entry hears, once they were asked for; else none.
+    /// The bytes of what the first entry hears, once they were written; else empty.
     pub(crate) text: Vec<u8>,
 }
 
@@ -33,6 +33,7 @@ impl Model for Queue {
 }
 
 impl Queue {
+    /// Makes a queue of these entries. Takes no memory.
     pub fn new(alloc: Global, entries: Vec<Entry>) -> Queue
         requires { AreReadable entries.items }
         ensures { result ≡ entries.items }
@@ -43,13 +44,14 @@ impl Queue {
         }
     }
 
+    /// Whether no entry is left.
     pub fn is_empty(&self) -> bool
         ensures { result ≡ (length self.now == 0) }
     {
         self.entries.is_empty()
     }
 
-    /// Takes the entry that comes next, if it hears nothing or what was sent. Only want of memory refuses it.
+    /// Takes the next entry out, if it hears nothing or a datagram that was sent; otherwise returns `None`. Fails only if out of memory.
     pub fn pop_ready(
         &mut self,
         alloc: Global,
@@ -63,8 +65,8 @@ impl Queue {
         Ok(Some(self.pop()))
     }
 
-    /// Whether there is an entry that comes next, and it hears nothing or what was sent. The bytes that it hears are written once, however
-    /// often it is asked.
+    /// Whether there is a next entry, and it hears nothing or a datagram that was sent. However often it is called, it writes the bytes
+    /// that the entry hears once.
     fn may_go(&mut self, alloc: Global, spellings: &Spellings) -> Result<bool, AllocError>
         ensures same { self.new ≡ self.old }
         ensures goes { IfOk result (MayGo spellings.now self.old) }
@@ -79,7 +81,7 @@ impl Queue {
         Ok(spellings.has(self.text.as_slice()))
     }
 
-    /// Takes the entry that comes next.
+    /// Takes the next entry out.
     fn pop(&mut self) -> Entry
         requires { 0 < length self.old }
         ensures split { self.old ≡ result ∷ self.new }
@@ -90,7 +92,7 @@ impl Queue {
     }
 }
 
-/// Writes the bytes of a datagram, unless they stand there.
+/// Writes the bytes of a datagram, unless they are there already.
 fn write(alloc: Global, text: &mut Vec<u8>, datagram: &Datagram) -> Result<(), AllocError>
     requires fits { IsSpellable datagram.now }
     requires kept { 0 < length text.old.items → text.old.items ≡ spelling_of datagram.now }

@@ -1,4 +1,4 @@
-//! Journals of one session, put together into one run.
+//! Putting the journals of one session together into one run.
 
 ghost use Rattle.std.specs.Prelude.{◌<◌, length, IfErr, IfOk};
 ghost use Rattle.srm_world.specs.Traces.{IsHonest, IsRoster, IsRun};
@@ -17,13 +17,16 @@ use srm_entries::Entry;
 use srm_world::{Journal, Start, Trace};
 use std::alloc::Global;
 
-/// Puts the journals of all members of a session, in any order, and what page workers took, together into one honest run of all of them:
-/// first the calls of the journals, each member's in their order, and then the takes, in the order of the lists. So what the workers took was
-/// drawn, and members at rest agree, with nothing taken for granted of any member.
+/// Puts the journals of all members of a session, in any order, and what page workers took, together into one honest run. The trace has
+/// first the entries of the journals, each member's in their order, and then the takes, in the order of the lists. So what the workers
+/// took was drawn, and members at rest agree, without trust in any member.
 ///
-/// Refused are, in this order: journals that aren't one for each member of one roster in one session; the first list that names no member
-/// of it or no slot, is there a second time, or isn't what the journal gave there first; and journals of which an entry hears what nobody can have
-/// sent before. Want of memory may refuse anything but the roster and a foreign list. A refusal drops the journals and the lists.
+/// The first of these faults that holds: [`Mismatch::Roster`] if the journals aren't one for each member of one roster in one session;
+/// [`Mismatch::Foreign`] for the first list whose member or page slot doesn't exist, that has those of an earlier list, or that isn't a
+/// prefix of what the member gave there; [`Mismatch::Unsent`] if an entry hears what nobody can have sent before it. [`Mismatch::Memory`]
+/// comes after Roster and Foreign, and may come in place of Unsent. On a fault the journals and the lists are dropped.
+///
+/// Stores the bytes of each datagram that was sent while it runs.
 pub fn reconcile(alloc: Global, journals: Vec<Journal>, gots: Vec<Got>) -> Result<Trace, Mismatch>
     ensures assembles { IfOk result (AreAccountedBy journals.items gots.items) }
     ensures run { IfOk result IsRun }
@@ -40,7 +43,7 @@ pub fn reconcile(alloc: Global, journals: Vec<Journal>, gots: Vec<Got>) -> Resul
     Ok(Trace::new(starts, entries))
 }
 
-/// How the members of journals in order of member began, and the entries of their trace.
+/// Returns how the members began, and the entries of their trace. The journals are in order of member.
 fn assemble(
     alloc: Global,
     journals: Vec<Journal>,
@@ -61,7 +64,7 @@ fn assemble(
     Ok((starts, entries))
 }
 
-/// The list at a place isn't what was given.
+/// The mismatch that names the list at a place.
 fn foreign(gots: &[Got], place: usize) -> Mismatch
     requires { place < length gots.now }
     ensures { IsForeignAt gots.now place result }

@@ -10,10 +10,10 @@ use std::alloc::{AllocError, Global};
 use std::collections::HashSet;
 use std::marker::Model;
 
-/// The session by which datagrams are written here. Those of all journals are of one session, so any number tells them apart.
+/// The session number that datagrams are encoded with here. All journals are of one session, so any number will do.
 const ANY_SESSION: u32 = 0;
 
-/// The datagrams that were sent. Contracts see their bytes, in some order.
+/// The datagrams that were sent, by their bytes. Contracts see these, in some order.
 #[derive(Drop)]
 pub struct Spellings {
     pub(crate) spellings: HashSet<Vec<u8>>,
@@ -28,7 +28,7 @@ impl Model for Spellings {
 }
 
 impl Spellings {
-    /// Nothing was sent yet.
+    /// Makes an empty set.
     pub fn new(alloc: Global) -> Spellings
         ensures { Knows [] result }
     {
@@ -44,7 +44,7 @@ impl Spellings {
         self.spellings.contains(text)
     }
 
-    /// A datagram was sent.
+    /// Adds a datagram that was sent. Fails only if out of memory.
     fn add(&mut self, alloc: Global, datagram: &Datagram) -> Result<(), AllocError>
         requires { IsSpellable datagram.now }
         ensures { OnOk result (Learns (datagram.now ∷ []) self.old self.new) }
@@ -54,7 +54,7 @@ impl Spellings {
         Ok(())
     }
 
-    /// These datagrams were sent.
+    /// Adds datagrams that were sent. Fails only if out of memory, and then some may have been added.
     pub fn add_all(&mut self, alloc: Global, datagrams: &[Datagram]) -> Result<(), AllocError>
         requires { AllByRecursion IsSpellable datagrams.now }
         ensures { OnOk result (Learns datagrams.now self.old self.new) }
@@ -66,7 +66,7 @@ impl Spellings {
     }
 }
 
-/// The bytes by which a datagram is known here.
+/// Returns the bytes that a datagram is stored as here. Fails only if out of memory.
 pub fn spelling_of(alloc: Global, datagram: &Datagram) -> Result<Vec<u8>, AllocError>
     requires { IsSpellable datagram.now }
     ensures { IfOk result (λ text. text.items ≡ bytes_of datagram.now) }

@@ -1,4 +1,4 @@
-//! What calls answer, as the numbers that C reads. 0 is done, 1 to 6 are the agent's faults, from 16 on those of this interface.
+//! Codes, as C reads them: 0 is done, 1 to 6 are the agent's faults, from 16 on the refusals of this interface.
 
 ghost use Rattle.std.specs.Prelude.{◌≡◌};
 ghost use Rattle.srm_ffi.specs.Codes.{cause_of, code_of, decode_fault_of, decode_number, fault_number, state_number};
@@ -6,9 +6,10 @@ ghost use Rattle.srm_ffi.specs.Codes.{cause_of, code_of, decode_fault_of, decode
 use srm_agent::{AgentFault, AgentState, Cause, Outcome};
 use srm_codec::DecodeFault;
 
+/// The call is done.
 pub const DONE: u32 = 0;
 
-/// A moment is past 2^48. (16, a pointer that is NULL, is answered by `capi/srm.c`.)
+/// A moment is past 2^48. (`capi/srm.c` returns 16, for a pointer that is NULL.)
 pub const MOMENT: u32 = 17;
 
 /// A slot is past 7.
@@ -23,19 +24,19 @@ pub const ROOM: u32 = 20;
 /// The handle holds no agent.
 pub const EMPTY: u32 = 21;
 
-/// There is no such page, or none is left.
+/// The page's creator is past 31, or the member has no page of its own left to begin.
 pub const PAGE: u32 = 22;
 
-/// There is nothing to be taken.
+/// There is nothing (more) to be taken.
 pub const NOTHING: u32 = 23;
 
 /// The handle holds an agent already.
 pub const FULL: u32 = 24;
 
-/// A member is past 31. (25, a length past PTRDIFF_MAX, is answered by `capi/srm.c`.)
+/// A member is past 31. (`capi/srm.c` returns 25, for a length past PTRDIFF_MAX.)
 pub const MEMBER: u32 = 26;
 
-/// 0 where the call is done, else its fault's number.
+/// Returns `DONE` if the agent did the call, else the number of its fault.
 pub fn of_answer<A>(answer: &Result<A, AgentFault>) -> u32
     ensures { result ≡ code_of answer.now }
 {
@@ -45,6 +46,7 @@ pub fn of_answer<A>(answer: &Result<A, AgentFault>) -> u32
     }
 }
 
+/// Returns the number of a fault, 1 to 6.
 pub fn of_fault(fault: AgentFault) -> u32
     ensures { result ≡ fault_number fault }
 {
@@ -58,6 +60,7 @@ pub fn of_fault(fault: AgentFault) -> u32
     }
 }
 
+/// Returns the number of a state, 1 to 3.
 pub fn of_state(state: AgentState) -> u8
     ensures { result ≡ state_number state }
 {
@@ -68,7 +71,7 @@ pub fn of_state(state: AgentState) -> u8
     }
 }
 
-/// Why a datagram was ignored; 0 where it was taken.
+/// Returns the number of the cause for which a datagram was ignored, 1 to 7; 0 if it was taken.
 pub fn cause_of(outcome: Outcome) -> u8
     ensures { result ≡ cause_of outcome }
 {
@@ -78,7 +81,7 @@ pub fn cause_of(outcome: Outcome) -> u8
     }
 }
 
-/// What is wrong with bytes that are no datagram of the session, else 0.
+/// Returns the number of what is wrong with bytes that are no datagram of the session, 1 to 12, else 0.
 pub fn decode_fault_of(outcome: Outcome) -> u8
     ensures { result ≡ decode_fault_of outcome }
 {

@@ -13,7 +13,10 @@ use srm_names::{LATEST_MOMENT, Member, Name, Page};
 use srm_seat::Handle;
 use std::alloc::Global;
 
-/// Draws bytes on a page, by its creator and number, and writes the name of the drawop.
+/// Draws a copy of `body` on the page of this creator and number, and writes the name of the drawop.
+///
+/// Returns `DONE` or the first of these that holds: `MOMENT`; `PAGE` if `creator` is past 31; `EMPTY`; the agent's fault, where out of memory
+/// may come in place of any other.
 #[unsafe(no_mangle)]
 pub extern "C" fn srm_raw_draw(
     alloc: Global,
@@ -51,7 +54,9 @@ fn write_drawn(answer: &Result<Name, AgentFault>, to: &mut RawName)
     }
 }
 
-/// Shows a page, by its creator and number.
+/// Shows the page of this creator and number.
+///
+/// Returns `DONE` or the first of these that holds: `MOMENT`; `PAGE` if `creator` is past 31; `EMPTY`; the agent's fault.
 #[unsafe(no_mangle)]
 pub extern "C" fn srm_raw_show(
     alloc: Global,
@@ -79,6 +84,8 @@ pub extern "C" fn srm_raw_show(
 }
 
 /// Begins to leave.
+///
+/// Returns `DONE` or the first of these that holds: `MOMENT`; `EMPTY`; the agent's fault.
 #[unsafe(no_mangle)]
 pub extern "C" fn srm_raw_leave(alloc: Global, handle: &mut Handle, now: u64) -> u32
     ensures late { LATEST_MOMENT < now → IsRefused MOMENT result handle.old.value handle.new.value }

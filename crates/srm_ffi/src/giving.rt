@@ -1,4 +1,4 @@
-//! Giving the messages of a slot.
+//! Giving the messages of a page slot.
 
 ghost use Rattle.std.specs.Prelude.{◌≡◌, ◌≤◌, ◌<◌, length};
 ghost use Rattle.srm_names.specs.declared.limits.TheConstants.{LONGEST_BODY, PAGES};
@@ -14,8 +14,10 @@ use srm_names::{LONGEST_BODY, PAGES, PageMsg};
 use srm_seat::{Handle, lay_over};
 use std::alloc::Global;
 
-/// Takes the next message of a slot, 0 to 7, writes it, and copies its body, if it has one, to the front of the room, which is to hold the longest
-/// body.
+/// Takes the next message of a page slot, 0 to 7, writes it, and copies its whole body, if it has one, to the front of the room.
+///
+/// Returns `DONE` or the first of these that holds: `SLOT`; `ROOM` if the room has fewer bytes than the longest body, 1,024; `EMPTY`; `NOTHING`
+/// if no message is left; the agent's fault.
 #[unsafe(no_mangle)]
 pub extern "C" fn srm_raw_give(
     alloc: Global,
@@ -60,7 +62,7 @@ fn tell_message(
     }
 }
 
-/// Copies the body of a message to the front of the room, if it has one and that fits. Each that an agent gives does.
+/// Copies the body of a message to the front of the room, if it has one and that fits. The body of each message that an agent gives does.
 fn copy_body(message: &PageMsg, room: &mut [u8])
     ensures { room.new ≡ laid_over (body_of message.now) room.old }
 {

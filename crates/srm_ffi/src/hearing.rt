@@ -13,7 +13,9 @@ use srm_names::LATEST_MOMENT;
 use srm_seat::Handle;
 use std::alloc::Global;
 
-/// Hears bytes that came, and writes what became of them.
+/// Hears bytes that came, whatever they are, and writes what became of them: how many timers they set, and why they were ignored.
+///
+/// Returns `DONE`, also if the bytes are ignored, or the first of these that holds: `MOMENT`; `EMPTY`; the agent's fault, out of memory.
 #[unsafe(no_mangle)]
 pub extern "C" fn srm_raw_hear(
     alloc: Global,

@@ -1,9 +1,11 @@
 //! What C calls of an agent: `capi/srm.c` gives each call its public name of `capi/srm.h`, and tests pointers for null.
 //!
-//! Each export takes a [`Handle`](srm_seat::Handle), which is zeroes at first and holds an agent or is empty, and answers a code. It keeps no pointer that it was
-//! passed. Moments are microseconds. What a call refuses leaves the handle, and what it would have written, as they were.
+//! Each export takes a [`Handle`](srm_seat::Handle), which is zeroes at first and holds an agent or is empty. It keeps no pointer that it was
+//! passed. Moments are microseconds, at most 2^48. `alloc` takes no bytes, and C doesn't pass it.
 //!
-//! `alloc` takes no bytes, and C doesn't pass it.
+//! **Codes.** Most exports return a code: `DONE`, the number of the agent's fault, or a refusal of this interface. They test moments first,
+//! then slots, pages, members, settings and rooms, and then whether the handle holds an agent. After any code but `DONE` the handle, and
+//! what the call would have written, are as they were, unless the call says otherwise.
 #![tactic(auto)]
 
 mod codes;

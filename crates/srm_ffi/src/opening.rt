@@ -14,7 +14,7 @@ use srm_names::LATEST_MOMENT;
 use srm_seat::{Handle, Seat};
 use std::alloc::Global;
 
-/// Writes the settings that most members leave as they are.
+/// Writes the defaults of the settings that have one. The size, the session, the member and the roster stay.
 #[unsafe(no_mangle)]
 pub extern "C" fn srm_raw_defaults(config: &mut RawConfig)
     ensures { config.new ≡ with_settings default_settings config.old }
@@ -29,7 +29,10 @@ pub extern "C" fn srm_raw_defaults(config: &mut RawConfig)
     config.least_distance = settings.least_distance;
 }
 
-/// Makes an agent in an empty handle, whose waits go by a seed.
+/// Makes an agent in an empty handle, with these settings. It chooses its waits by the random numbers of the seed, which is any number.
+///
+/// Returns `DONE` or the first of these that holds: `MOMENT`; `CONFIG` if a setting is out of its range, or the member isn't in the roster;
+/// `FULL` if the handle holds an agent; the number of out of memory. Doesn't read `config.size`.
 #[unsafe(no_mangle)]
 pub extern "C" fn srm_raw_open(
     alloc: Global,
@@ -55,7 +58,7 @@ pub extern "C" fn srm_raw_open(
     open_empty(alloc, handle, config, seed, now)
 }
 
-/// Makes an agent in a handle that holds none. Out of memory is its only error.
+/// Makes an agent in a handle that holds none. Fails only if out of memory.
 fn open_empty(alloc: Global, handle: &mut Handle, config: Config, seed: u64, now: u64) -> u32
     requires moment { now ≤ LATEST_MOMENT }
     requires empty { handle.old.value ≡ None }
@@ -73,7 +76,7 @@ fn open_empty(alloc: Global, handle: &mut Handle, config: Config, seed: u64, now
     }
 }
 
-/// Lets the agent go, if the handle holds one.
+/// Drops the agent, if the handle holds one. The handle is empty then.
 #[unsafe(no_mangle)]
 pub extern "C" fn srm_raw_close(alloc: Global, handle: &mut Handle)
     ensures { handle.new.value ≡ None }

@@ -1,4 +1,4 @@
-//! What crosses to C, in C's layout: `capi/srm.h` says the same, and `capi/srm.c` compares sizes and places.
+//! The structs that cross to C, in C's layout. `capi/srm.h` declares the same, and `capi/tests/structs.py` compares them.
 
 ghost use Rattle.std.specs.Prelude.{◌≡◌, ◌↔◌, IfSome, IsSome};
 ghost use Rattle.srm_entries.specs.Configs.{IsConfig};
@@ -26,7 +26,7 @@ pub struct RawName {
     pub number: u32,
 }
 
-/// The settings of a member. C says in `size` how many bytes of it there are, and fills the rest with defaults.
+/// The settings of a member. `capi/srm.c` reads `size`, the bytes of the caller's struct, and fills the rest with defaults.
 #[repr(C)]
 #[derive(Clone, Copy)]
 pub struct RawConfig {
@@ -43,7 +43,7 @@ pub struct RawConfig {
     pub least_distance: u64,
 }
 
-/// What became of bytes that were heard.
+/// What became of bytes that were heard: how many timers they set, and the cause and fault for which they were ignored.
 #[repr(C)]
 #[derive(Clone, Copy)]
 pub struct RawHeard {
@@ -62,7 +62,7 @@ pub struct RawTicked {
     pub state: u8,
 }
 
-/// A message of a page feed, but for its body.
+/// A message of a page feed without its body.
 #[repr(C)]
 #[derive(Clone, Copy)]
 pub struct RawMessage {
@@ -73,7 +73,7 @@ pub struct RawMessage {
 }
 
 impl RawConfig {
-    /// The settings, if each is in its range and the member in the roster.
+    /// Returns the settings; `None` if one is out of its range, or the member isn't in the roster.
     pub fn config(&self) -> Option<Config>
         ensures known { IsSome result ↔ IsConfig (config_of self.now) }
         ensures value { IfSome result (λ config. config ≡ config_of self.now) }
@@ -93,6 +93,7 @@ impl RawConfig {
 }
 
 impl RawPage {
+    /// Returns a page as C reads it.
     pub fn of(page: Page) -> RawPage
         ensures { result ≡ raw_page page }
     {
@@ -104,6 +105,7 @@ impl RawPage {
 }
 
 impl RawName {
+    /// Returns a name as C reads it.
     pub fn of(name: Name) -> RawName
         ensures { result ≡ raw_name name }
     {
@@ -116,6 +118,7 @@ impl RawName {
 }
 
 impl RawHeard {
+    /// Returns what became of a datagram as C reads it.
     pub fn of(heard: &Heard) -> RawHeard
         ensures { result ≡ raw_heard heard.now }
     {
@@ -128,6 +131,7 @@ impl RawHeard {
 }
 
 impl RawTicked {
+    /// Returns what a tick left as C reads it.
     pub fn of(counts: &TickCounts) -> RawTicked
         ensures { result ≡ raw_ticked counts.now }
     {
@@ -141,6 +145,7 @@ impl RawTicked {
 }
 
 impl RawMessage {
+    /// Returns a message without its body as C reads it. What its kind doesn't speak of is 0.
     pub fn of(message: &PageMsg) -> RawMessage
         ensures { result ≡ raw_message message.now }
     {

@@ -1,4 +1,4 @@
-//! What is told of an agent, and changes nothing.
+//! What C asks of an agent. These exports change nothing.
 
 ghost use Rattle.std.specs.Prelude.{◌≡◌, ◌≤◌, ◌<◌};
 ghost use Rattle.srm_names.specs.declared.limits.TheConstants.{MEMBERS};
@@ -12,7 +12,7 @@ use srm_names::{Member, Page};
 use srm_seat::Handle;
 use std::alloc::Global;
 
-/// When a tick next has something to do; the greatest number where it never has, or the handle is empty.
+/// Returns the next moment at which a tick does something; the greatest number if there is none, or the handle is empty.
 #[unsafe(no_mangle)]
 pub extern "C" fn srm_raw_next_due(alloc: Global, handle: &mut Handle) -> u64
     ensures { DueCall result handle.old.value handle.new.value }
@@ -25,7 +25,7 @@ pub extern "C" fn srm_raw_next_due(alloc: Global, handle: &mut Handle) -> u64
     or_never(due)
 }
 
-/// Whether the member takes part: 1 active, 2 leaving, 3 gone; 0 where the handle is empty.
+/// Returns whether the member takes part: 1 active, 2 leaving, 3 gone; 0 if the handle is empty.
 #[unsafe(no_mangle)]
 pub extern "C" fn srm_raw_state(alloc: Global, handle: &mut Handle) -> u8
     ensures { StateCall result handle.old.value handle.new.value }
@@ -38,7 +38,9 @@ pub extern "C" fn srm_raw_state(alloc: Global, handle: &mut Handle) -> u8
     of_state(state)
 }
 
-/// Writes the next page of this member's own, if one is left.
+/// Writes the page of its own that the member would begin next.
+///
+/// Returns `DONE` or the first of these that holds: `EMPTY`; `PAGE` if none is left.
 #[unsafe(no_mangle)]
 pub extern "C" fn srm_raw_new_page(alloc: Global, handle: &mut Handle, page: &mut RawPage) -> u32
     ensures { NewPageCall result page.old page.new handle.old.value handle.new.value }
@@ -63,7 +65,9 @@ fn tell_page(page: Option<Page>, to: &mut RawPage) -> u32
     }
 }
 
-/// Writes the one-way distance to a member.
+/// Writes the one-way distance to a member in microseconds.
+///
+/// Returns `DONE` or the first of these that holds: `MEMBER` if the member is past 31; `EMPTY`.
 #[unsafe(no_mangle)]
 pub extern "C" fn srm_raw_distance(
     alloc: Global,
@@ -85,7 +89,7 @@ pub extern "C" fn srm_raw_distance(
     DONE
 }
 
-/// Whether the rate would let a body of so many bytes go at once; false where the handle is empty.
+/// Whether a body of so many bytes, drawn at this moment, which is any, would wait for no other; false if the handle is empty.
 #[unsafe(no_mangle)]
 pub extern "C" fn srm_raw_admits(
     alloc: Global,
@@ -103,7 +107,7 @@ pub extern "C" fn srm_raw_admits(
     admits
 }
 
-/// From when on it would; the greatest number where something has to go first, or the handle is empty.
+/// Returns from which moment on it would wait for no other; the greatest number if something has to go first, or the handle is empty.
 #[unsafe(no_mangle)]
 pub extern "C" fn srm_raw_admits_from(alloc: Global, handle: &mut Handle, length: usize) -> u64
     ensures { AdmitsFromCall length result handle.old.value handle.new.value }
@@ -116,7 +120,7 @@ pub extern "C" fn srm_raw_admits_from(alloc: Global, handle: &mut Handle, length
     or_never(first)
 }
 
-/// A moment, or the greatest number.
+/// Returns a moment, or the greatest number if there is none.
 fn or_never(moment: Option<u64>) -> u64
     ensures { result ≡ or_never moment }
 {

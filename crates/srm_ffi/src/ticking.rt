@@ -13,7 +13,10 @@ use srm_names::{LATEST_MOMENT, Name};
 use srm_seat::{Handle, Handover, TickCounts};
 use std::alloc::Global;
 
-/// Does what is due, and writes how much that left to be taken. What an earlier tick left is dropped where this one is done.
+/// Does what is due, and writes how much that left to be taken. Drops what an earlier tick left and nobody took, as if it were lost on its way.
+///
+/// Returns `DONE` or the first of these that holds: `MOMENT`; `EMPTY`; the agent's fault, out of memory. After an error what an earlier tick left
+/// stays.
 #[unsafe(no_mangle)]
 pub extern "C" fn srm_raw_tick(
     alloc: Global,
@@ -44,7 +47,9 @@ fn write_ticked(answer: &Result<TickCounts, AgentFault>, to: &mut RawTicked)
     }
 }
 
-/// Takes the next name that the last tick asked for.
+/// Takes the next name that the last tick requested, in order, and writes it.
+///
+/// Returns `DONE` or the first of these that holds: `EMPTY`; `NOTHING` if there is no more.
 #[unsafe(no_mangle)]
 pub extern "C" fn srm_raw_request(alloc: Global, handle: &mut Handle, name: &mut RawName) -> u32
     ensures { RequestCall result name.old name.new handle.old.value handle.new.value }
@@ -57,7 +62,9 @@ pub extern "C" fn srm_raw_request(alloc: Global, handle: &mut Handle, name: &mut
     tell_name(next, name)
 }
 
-/// Takes the next name that the last tick repaired.
+/// Takes the next name that the last tick repaired, in order, and writes it.
+///
+/// Returns `DONE` or the first of these that holds: `EMPTY`; `NOTHING` if there is no more.
 #[unsafe(no_mangle)]
 pub extern "C" fn srm_raw_repair(alloc: Global, handle: &mut Handle, name: &mut RawName) -> u32
     ensures { RepairCall result name.old name.new handle.old.value handle.new.value }
@@ -82,8 +89,10 @@ fn tell_name(name: Option<Name>, to: &mut RawName) -> u32
     }
 }
 
-/// Takes the next datagram that the last tick left to be sent, copies it to the front of the room and writes its length. Where it doesn't
-/// fit, nothing is copied, it stays the next, and its length is written too.
+/// Takes the next datagram that the last tick left to be sent, copies it to the front of the room and writes its length.
+///
+/// Returns `DONE` or the first of these that holds: `EMPTY`; `NOTHING` if there is no more; `ROOM` if it doesn't fit. Then it stays the next, the
+/// room is as it was, and its length is written.
 #[unsafe(no_mangle)]
 pub extern "C" fn srm_raw_datagram(
     alloc: Global,

@@ -1,4 +1,4 @@
--- Handing requests and repairs in, one after the other, and letting go until nothing goes.
+-- Requests and repairs are handed in, one after the other, and the bucket lets go until nothing goes.
 use Rattle.std.proofs.Common.{◌≡◌, ℕ, ◌+◌, ◌<◌, ◌≤◌, Bool, true, false, List, [], ◌∷◌, ◌++◌, length, drop, map, refl, ap, sym, ◌∙◌, subst, arith, append_assoc, length-append}
 use Rattle.std.specs.Prelude.{◌==◌, Option, Some, None, option_map, if◌then◌else◌}
 use Rattle.std.specs.List.{AllByRecursion}
@@ -20,7 +20,7 @@ use Rattle.srm_outbox.specs.Outs.{IsOwn, AreOwn}
 use Rattle.srm_outbox.specs.DueItems.{classed_of}
 use Rattle.srm_outbox.specs.Outbox.{Passes, WentContent, NothingWent, HandsIn, LetsGo}
 
--- a queue from which nothing came is empty
+-- a queue whose pop returned nothing is empty
 pub drained : {X : Type 0} (xs ys : List X) → xs ≡ ys → ys ≡ drop 1 xs → xs ≡ []
 drained [] ys e f = refl
 drained (x ∷ xs) ys e f = (let k : length (x ∷ xs) ≡ length xs = ap length (e ∙ f) in absurd (omega arith))
@@ -34,7 +34,7 @@ all-class P class c p = go (rank c.class == rank class)
     go true = (p, tt)
     go false = tt
 
--- one's own item behind those of its class
+-- an item of the member behind those of its class
 pub own_behind : (me session : ℕ) (c : Classed Outgoing) (old new : Waiting Outgoing) → AreOwn me session old → Gains c old new → IsOwn me session c.item.value → AreOwn me session new
 own_behind me session c old new own gains one = record {
   each = λ class. subst (AllByRecursion (λ i. IsOwn me session i.value)) (sym (gains class))

@@ -52,7 +52,7 @@ between a n b same p q = go (tells a n p) (tells n b q)
     go (inr x) (inl y) = absurd (not_below_itself b.stream (subst (λ s. stream_below s b.stream ≡ true) (sym x.0 ∙ same) y))
     go (inr x) (inr y) = (sym x.0, x.1, y.1)
 
--- what it is to be covered
+-- when a request covers a name
 
 record Covers (first n : FullName) : Type 0 where
   pub stream : first.stream ≡ n.stream
@@ -70,7 +70,7 @@ covered first n c =
     and_from _ _ (and_from _ _ (subst (λ s. same_stream first.stream s ≡ true) c.stream (same_stream-itself first.stream)) (lt-ltb first.number n.number c.above))
     (le-leb n.number (first.number + 32) c.near)
 
--- behind the first name that isn't covered none is
+-- behind the first name that isn't covered, no name is covered
 not_covered : (first before n m : FullName) → before.stream ≡ first.stream → first.number ≤ before.number → name_below before n ≡ true → is_covered first n ≡ false → name_below n m ≡ true → is_covered first m ≡ false
 not_covered first before n m s l p u q = false_from_ne_true (is_covered first m) (λ e.
     let c = covers first m e in
@@ -161,7 +161,7 @@ request_spelled me mask first member name short within =
 pub rising_from : (i : ℕ) (n : FullName) (names : List FullName) → i < length names → n ≡ get_or names i n → ascending name_below names ≡ true → ascending name_below (n ∷ drop (i + 1) names) ≡ true
 rising_from i n names lt at asc = subst (λ ns. ascending name_below ns ≡ true) (left_at i n names lt at) (ascending_drop name_below i names asc)
 
--- A loop has made these requests, the last of which begins at this name, and has these asks left.
+-- A loop has made these requests. The last one begins at this name, and these names are left.
 pub record PackedSoFar (me : ℕ) (asks left : List FullName) (last : Option FullName) (requests : List Datagram) : Type 0 where
   pub packs : requests ++ packed_after me last left ≡ packed me asks
   pub each : AllByRecursion (MayHandIn me) requests

@@ -1,4 +1,4 @@
--- What a tick hands in: requests and repairs of this member, each spelled, and with its class by the page shown.
+-- What a tick hands in: requests and repairs of this member, each spelled, with the class that the shown page gives it.
 use Rattle.std.specs.Prelude.{◌≡◌, ℕ, false, List, map}
 use Rattle.std.specs.List.{AllByRecursion}
 use Rattle.srm_names.specs.declared.page.Page.{Page}
@@ -31,7 +31,7 @@ pub record HoldsSpellable (s : StoreContent) : Type 0 where
   pub fits : StoreFits inserted evidence settled s
   pub spellable : AllByRecursion is_drawop inserted
 
--- as the bucket sees it
+-- an item as the bucket sees it
 abbrev pub classed_of : DueItem → Classed Outgoing
 classed_of a = record { class = a.class; item = a.item }
 

@@ -1,4 +1,4 @@
--- What a member may hand in, and what went.
+-- What a member may hand in, and what went, at worked examples.
 use Rattle.std.specs.Prelude.{◌≡◌, ℕ, ◌+◌, ◌≤◌, ◌<◌, true, false, [], ◌∷◌, Some, None, refl}
 use Rattle.srm_names.specs.declared.limits.TheConstants.{LATEST_MOMENT, MEMBERS}
 use Rattle.srm_names.specs.declared.drawop.Drawop.{Drawop}

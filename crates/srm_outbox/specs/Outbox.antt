@@ -1,4 +1,4 @@
--- What handing in and letting go do to the bucket, over whatever calls it fitted, and what went.
+-- What handing in and letting go do to a bucket, for every list of calls that it fits, and what went.
 use Rattle.std.specs.Prelude.{◌≡◌, ℕ, ◌+◌, ◌<◌, List, [], ◌∷◌, ◌++◌, map, length, None}
 use Rattle.std.specs.List.{AllByRecursion}
 use Rattle.srm_codec.specs.declared.datagram.Datagram.{Datagram}
@@ -30,7 +30,7 @@ pub record HandsIn (due_items : List DueItem) (old new : BucketContent Outgoing)
   pub own : (me session : ℕ) → AreOwn me session old.waiting → AllByRecursion (λ a. IsOwn me session a.item.value) due_items → AreOwn me session new.waiting
   pub count : count_of new.waiting ≡ count_of old.waiting + length due_items
 
--- the calls so far are followed by pops in which these went
+-- the bucket fits the calls so far, and then the pops that let these go
 pub record Goes (rate depth now : ℕ) (calls : List (BucketCall Outgoing)) (items : List Outgoing) (new : BucketContent Outgoing) : Type 0 where
   pub goes : List (Classed Outgoing)
   pub items_are : map (λ i. i.item.value) goes ≡ items

@@ -31,7 +31,7 @@ pub record IsOutgoingOf (session : ℕ) (g : Datagram) (o : Outgoing) : Type 0 w
   pub is : IsOutgoing session o
   pub of : o.out.datagram ≡ g
 
--- what a member lets wait for the bucket is spelled and its own, and no session message
+-- what waits for a member's bucket is spelled, sent by that member, and no session message
 pub record IsOwn (me session : ℕ) (o : Outgoing) : Type 0 where
   pub spelled : IsOutgoing session o
   pub sender : sender_of o.out.datagram ≡ me

@@ -1,4 +1,4 @@
-//! What a tick hands in: the requests and the repairs that are due.
+//! The requests and repairs that a tick hands in.
 
 ghost use Rattle.std.specs.Prelude.{◌≡◌, ◌++◌, List, true, option_map, IfOk, IfSome};
 ghost use Rattle.std.specs.List.{AllByRecursion, filter_map};
@@ -25,15 +25,16 @@ use srm_store::Store;
 use std::alloc::{AllocError, Global};
 use std::collections::VecDeque;
 
-/// A request or a repair to be handed in to the bucket, with its class.
+/// A request or a repair to hand in to the bucket, with its class.
 #[derive(Drop)]
 pub struct DueItem {
     pub class: Class,
     pub item: Item<Outgoing>,
 }
 
-/// Returns the requests for names, and then the repairs of those names of the second list that are held. What the store holds can
-/// be spelled, so that no repair is left out. Fails only when out of memory.
+/// Returns the requests for the names `asks`, which rise, packed, and then a repair for each of `fixes` that is held, in order.
+///
+/// All that the store holds can be spelled, so no repair is left out. Repairs share the bodies of the store. Fails only if out of memory.
 pub fn requests_and_repairs(
     alloc: Global,
     me: Member,
@@ -56,7 +57,7 @@ pub fn requests_and_repairs(
     Ok(datagrams)
 }
 
-/// Returns the repair with the drawop that is held, where one is. Fails only when out of memory.
+/// Returns the repair with the held drawop, if there is one. Fails only if out of memory.
 fn repair(me: Member, held: Option<&Drawop>) -> Result<Option<Datagram>, AllocError>
     requires { IfSome (option_copied held) is_drawop }
     ensures value { IfOk result (λ repair. repair ≡ option_map (Repair me) (option_copied held.entry)) }
@@ -72,7 +73,9 @@ fn repair(me: Member, held: Option<&Drawop>) -> Result<Option<Datagram>, AllocEr
     }))
 }
 
-/// The datagrams spelled in a session, each with the class that it has while a page is shown. Only want of memory refuses them.
+/// Spells datagrams of a session, in order, and returns them with the class that each has while page `showing` is shown.
+///
+/// Fails only if out of memory; the datagrams are dropped then.
 pub fn spelled(
     alloc: Global,
     me: Member,
@@ -90,7 +93,7 @@ pub fn spelled(
     Ok(items)
 }
 
-/// One datagram, spelled and with its class.
+/// Spells one datagram, and returns it with its class. Fails only if out of memory.
 fn spell(
     alloc: Global,
     me: Member,
@@ -110,7 +113,7 @@ fn spell(
     })
 }
 
-/// How many bytes a datagram has: at most those of a full datagram.
+/// Returns how many bytes a datagram has, 1 to 1,051: what its item costs.
 fn length_in_bytes(datagram: &Datagram, me: &Member) -> u32
     requires { MayHandIn me.now datagram.now }
     ensures value { result ≡ length_of datagram.now }
@@ -119,7 +122,7 @@ fn length_in_bytes(datagram: &Datagram, me: &Member) -> u32
     length(datagram) as u32
 }
 
-/// The page for which a datagram is sent. A session message is for none.
+/// Returns the page that a datagram is for. A session message is for none.
 fn page_of(datagram: &Datagram) -> Option<Page>
     ensures { result ≡ page_of datagram.now }
 {
@@ -131,7 +134,7 @@ fn page_of(datagram: &Datagram) -> Option<Page>
     }
 }
 
-/// The class of a datagram for a page, while a page is shown.
+/// Returns the class of a datagram for a page while page `showing` is shown.
 fn class_for(showing: &Page, page: &Option<Page>) -> Class
     ensures { result ≡ class_for showing.now page.now }
 {

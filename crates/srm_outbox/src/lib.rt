@@ -1,9 +1,9 @@
-//! What a member hands in of what is due, and what goes of it under its rate.
+//! The requests and repairs that a tick makes, and what of them the bucket lets go.
 //!
-//! The names that are asked for are packed into requests, those that are repaired become repairs where they are held. Each is
-//! spelled and handed in with its class, and waits until the bucket lets it go.
+//! Names to request are packed into requests, and each held name to repair becomes a repair. Each datagram is spelled, handed in with
+//! its class, and waits until the bucket lets it go.
 //!
-//! It is for `srm_agent`, and nothing else needs it.
+//! Only `srm_agent` calls it. It exports [`Out`], and other crates' contracts cite the definitions.
 //!
 //! ```
 //! let answers = requests_and_repairs(alloc, me, &store, &asks, &fixes)?;
@@ -13,7 +13,8 @@
 //! let went = let_go(&mut bucket, now, Went::with_room(alloc, room)?);
 //! ```
 //!
-//! **What is refused.** All is refused for want of memory alone, before anything is handed in.
+//! **Errors.** Calls fail only if out of memory, with `AllocError`. [`hand_in`], [`let_go`] and [`let_time_pass`] can't fail: room is made
+//! before.
 #![tactic(auto)]
 
 mod due_items;

@@ -15,8 +15,7 @@ pub struct Out {
     pub bytes: Items<u8>,
 }
 
-/// A datagram that waits for the bucket: spelled, and with a copy for the entry in which it goes, so that letting it go takes
-/// no memory.
+/// A datagram that waits for the bucket. It is spelled, and copied for the entry of the tick that sends it, so that sending takes no memory.
 #[derive(Debug, Drop)]
 pub struct Outgoing {
     pub out: Out,
@@ -24,7 +23,7 @@ pub struct Outgoing {
 }
 
 impl Outgoing {
-    /// Spells a datagram. Only want of memory refuses it.
+    /// Spells a datagram in a session, and copies it. Fails only if out of memory; the datagram is dropped then.
     pub fn new(alloc: Global, session: u32, datagram: Datagram) -> Result<Outgoing, AllocError>
         requires { IsSpellable datagram }
         ensures { IfOk result (λ outgoing. IsOutgoingOf session datagram outgoing) }

@@ -1,4 +1,4 @@
-//! Handing in, and what goes under the rate.
+//! What is handed in to the bucket, and what goes under the rate.
 
 ghost use Rattle.std.specs.Prelude.{◌≡◌, ◌≤◌, ◌<◌, ◌+◌, ◌++◌, [], ◌∷◌, length, IfOk};
 ghost use Rattle.std.specs.List.{AllByRecursion};
@@ -15,7 +15,7 @@ use std::alloc::{AllocError, Global};
 use std::collections::VecDeque;
 use std::marker::Model;
 
-/// What goes in a tick, in order: for its answer with the bytes, and a copy for its entry.
+/// What goes in a tick, in order: with bytes for the caller, and as copies for the entry.
 #[derive(Drop)]
 pub struct Went {
     outs: Vec<Out>,
@@ -36,7 +36,7 @@ impl Model for Went {
 }
 
 impl Went {
-    /// Nothing went, and there is room for so many datagrams. Only want of memory refuses it.
+    /// Makes room for so many datagrams. Nothing went yet. Fails only if out of memory.
     pub fn with_room(alloc: Global, count: usize) -> Result<Went, AllocError>
         ensures empty { IfOk result NothingWent }
         ensures room { IfOk result (λ went. count ≤ went.room) }
@@ -47,7 +47,7 @@ impl Went {
         })
     }
 
-    /// A datagram goes, for which there is room.
+    /// Adds a datagram that goes, for which there is room. Takes no memory.
     pub fn add(&mut self, outgoing: Outgoing)
         requires { 0 < self.old.room }
         ensures outs { self.new.outs ≡ self.old.outs ++ outgoing.out ∷ [] }
@@ -59,7 +59,7 @@ impl Went {
         self.noted.push(noted).unwrap();
     }
 
-    /// What went, for the answer and for the entry.
+    /// Returns what went: with bytes for the caller, and as copies for the entry. Takes no memory.
     pub fn into_items(self) -> (Items<Out>, Items<Datagram>)
         ensures outs { result.0 ≡ self.outs }
         ensures noted { result.1 ≡ self.noted }
@@ -68,7 +68,7 @@ impl Went {
     }
 }
 
-/// Hands in requests and repairs, for which the bucket has room.
+/// Hands in requests and repairs, in order, for which the bucket has room. Takes no memory.
 pub fn hand_in(bucket: &mut Bucket<Outgoing>, mut due_items: VecDeque<DueItem>)
     requires room { length due_items.items ≤ bucket.old.waiting.room }
     requires lengths { AllByRecursion (λ due_item. HasLength due_item.item) due_items.items }
@@ -79,8 +79,9 @@ pub fn hand_in(bucket: &mut Bucket<Outgoing>, mut due_items: VecDeque<DueItem>)
     }
 }
 
-/// Pops until nothing goes, at a moment in microseconds. What goes is added to what went, which has room for all that waits
-/// and one more.
+/// Lets all go that the rate allows at `now`, in microseconds, at most 2^48, and returns it in order.
+///
+/// `went` is empty, and has room for all that waits and one more. So it takes no memory.
 pub fn let_go(bucket: &mut Bucket<Outgoing>, now: u64, mut went: Went) -> Went
     requires now { now ≤ LATEST_MOMENT }
     requires empty { NothingWent went }
@@ -93,8 +94,8 @@ pub fn let_go(bucket: &mut Bucket<Outgoing>, now: u64, mut went: Went) -> Went
     went
 }
 
-/// Lets time pass up to a moment in microseconds. It is for moments at which nothing may go: what may go is dropped. It takes
-/// no memory.
+/// Lets time pass up to `now`, in microseconds, at most 2^48. It is for moments at which nothing may go: an item that may go would be
+/// dropped. Takes no memory.
 #[tactic(auto, using(crate::proofs::Handing::pop_passes))]
 pub fn let_time_pass(bucket: &mut Bucket<Outgoing>, now: u64)
     requires { now ≤ LATEST_MOMENT }

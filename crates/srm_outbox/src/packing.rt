@@ -14,8 +14,8 @@ use srm_names::{Member, Name};
 use std::alloc::{AllocError, Global};
 use std::collections::VecDeque;
 
-/// The requests of a member for these names, in order: each begins at the first name that the one before it doesn't cover,
-/// and names those that it covers. Only want of memory refuses it.
+/// Returns a member's requests for these names, which rise, in order. Each begins at the first name that the one before it doesn't cover,
+/// and names all that it covers. Fails only if out of memory.
 pub(crate) fn packed(
     alloc: Global,
     me: Member,
@@ -55,7 +55,7 @@ fn is_covered(first: Name, name: Name) -> bool
         && name.number() <= first.number() + MASK_BITS
 }
 
-/// The request that begins at a name, with the names behind it.
+/// Returns the request that begins at a name, and names those behind it that it covers.
 fn request(me: Member, first: Name, rest: &[Name]) -> Datagram
     requires { ascending name_below (first ∷ rest.now) ≡ true }
     ensures value { result ≡ Request me first (mask_of first rest.now) }
@@ -70,7 +70,7 @@ fn request(me: Member, first: Name, rest: &[Name]) -> Datagram
     }
 }
 
-/// A bit for each of the names behind the first that a request which begins there covers.
+/// Returns the mask of a request: a bit for each name behind the first that the request covers.
 fn mask(first: Name, rest: &[Name]) -> u32
     requires { ascending name_below (first ∷ rest.now) ≡ true }
     ensures value { result ≡ mask_of first rest.now }
@@ -86,7 +86,8 @@ fn mask(first: Name, rest: &[Name]) -> u32
     mask
 }
 
-/// Does nothing. The source of a name and the creator of its page are members, and its number is one of a drawop.
+/// Tells proofs that a name is in range, as its type promises: its source and its page's creator are members, and its number is a drawop's.
+/// It does nothing when it runs.
 fn is_in_range(name: Name)
     ensures { is_name name }
 {

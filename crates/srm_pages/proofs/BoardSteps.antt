@@ -37,7 +37,7 @@ grown xs words i n inside less bound k =
     (λ (e : k ≡ i). let b = bound k in let w : get_or words k 0 ≤ n = subst (λ j. get_or words j 0 ≤ n) (sym e) less in let s : get_or (set words i n) k 0 ≡ n = subst (λ j. get_or (set words i n) j 0 ≡ n) (sym e) (get_or-set_same words i n 0 inside) in omega arith)
     (λ (ne : k ≢ i). let b = bound k in let s = get_or-set_other words i k n 0 ne in omega arith)
 
--- the same where the list notes the new number
+-- the same if the list notes the new number
 noted_bound : (xs words : List ℕ) (i n : ℕ) → i < length words → i < length xs → ((k : ℕ) → get_or xs k 0 ≤ get_or words k 0) → (k : ℕ) → get_or (set xs i n) k 0 ≤ get_or (set words i n) k 0
 noted_bound xs words i n inside inside' bound k =
     dite (ℕ_discrete k i)
@@ -152,7 +152,7 @@ looks slots id word m inside s h _ at _ =
       (refl, get_or-set_same v.seen word n 0 in_seen, my.bound word, h.narrow word),
     )
 
--- the dealer cuts off the seat of the next tap
+-- the dealer splits off the seat of the next tap
 pub next_tap : (id : ℕ) (v : BoardView) → v.deals ≡ true → Splits BoardState id v (board_view v.taps v.slot v.deals (v.next + 1) v.seen) (board_view true v.next false 0 zeros)
 next_tap id v deals s h at =
     let my = h.fits id v at in
@@ -188,7 +188,7 @@ next_tap id v deals s h at =
           (snoc_cases (set s.views id left) right u j e);
     }
 
--- any seat cuts off the seat of one who only looks
+-- any seat splits off one that only looks
 pub watches : (id : ℕ) (v : BoardView) → Splits BoardState id v v looking
 watches id v s h at =
     record {

@@ -1,4 +1,4 @@
--- Lanes and pens, one after another.
+-- How lanes and producers are made, one after another.
 use Rattle.std.proofs.Common.{◌≡◌, ◌≢◌, ◌⊎◌, ℕ, zero, suc, ◌<◌, List, [], ◌∷◌, ◌++◌, length, Some, refl, sym, ap, ◌∙◌, subst, inl, inr, arith, slice_index_or}
 use Rattle.std.specs.Prelude.{slice_get}
 use Rattle.std.proofs.lemmas.Option.{slice_get_read}
@@ -38,6 +38,6 @@ ends_at asked fs ts vs slot f t all small at at' =
     let ends = all.3.each slot f t (slice_get_read fs (length fs) slot f refl (omega arith) at) (slice_get_read ts (length ts) slot t refl (omega arith) at') in
     (ends.0.0, ends.2)
 
--- the first pen, taken out of all
+-- the first producer, taken out of all
 pub pen_at : (well : TableId) (pens : List PenView) (p : PenView) → AreNewPens well pens → 0 < length pens → p ≡ slice_index_or pens 0 p → (p.number ≡ 0) × (p.well ≡ well)
 pen_at well pens p new some at = let is = new 0 p (slice_get_read pens (length pens) 0 p refl some at) in (ap (λ (q : PenView). q.number) is, ap (λ (q : PenView). q.well) is)

@@ -1,4 +1,4 @@
--- Each step keeps the rule of the well.
+-- Each step keeps the rule of the stroke queue.
 use Rattle.std.proofs.Common.{◌≡◌, ◌≢◌, ℕ, ◌+◌, ◌<◌, true, false, true≢false, cond, eqb, eq-eqb, ne_eqb, List, [], ◌∷◌, ◌++◌, length, set, sym, refl, ap, ◌∙◌, subst, ⊎_elim, append_assoc, append-nil, arith}
 use mathlib.Core.Option.{some}
 use lib.ListN.{get_elem?}
@@ -106,7 +106,7 @@ next_pen id v may items views h at =
           (snoc_cases (set views id left) right u j e);
     }
 
--- the reader takes in the pass of a pen
+-- the reader's pass takes in a producer's
 pub joins : (id : ℕ) (v : InkView) (other : ℕ) (u : InkView) → v.reads ≡ true → u.writes ≡ true → Merges IsWellState id v other u (with_pen v u) joined_pass
 joins id v other u may writes items views h at two at' =
     let both = with_pen v u in
@@ -131,13 +131,13 @@ joins id v other u may writes items views h at two at' =
       fits = all_set (FitsInk seat h.made h.received items) vs other joined_pass record { pen = λ d. absurd (off d); reader = λ d. absurd (off d) } (λ j w apart e. now j w e apart);
     }
 
--- and learns what the pen's part is
+-- and learns what the producer's part is
 pub learns_part : (id : ℕ) (v : InkView) → v.reads ≡ true → v.writes ≡ true → Learns IsWellState id v (KnowsPart v)
 learns_part id v may writes items views h at =
     let my = h.fits id v at in
     record { sent = (my.pen writes).2 ∙ part_of_both v.pen h.received items ∙ ap (λ l. strokes_of v.pen l ++ strokes_of v.pen items) (sym (my.reader may).1) }
 
--- and gives the pen's pass back
+-- and gives the producer's pass back
 pub parts : (id : ℕ) (v : InkView) → v.reads ≡ true → v.writes ≡ true → Forks IsWellState id v (reader_of v) (pen_of v)
 parts id v may writes items views h at =
     let my = h.fits id v at in

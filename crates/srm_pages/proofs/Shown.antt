@@ -1,4 +1,4 @@
--- What the registers of a slot show is among what its count has.
+-- The registers of a slot show no more drawops than its count has messages.
 use Rattle.std.proofs.Common.{◌≡◌, ◌≢◌, ℕ, zero, suc, ◌+◌, ◌-◌, ◌/◌, ◌<◌, ◌≤◌, true, true≢false, List, [], ◌∷◌, length, Option, Some, None, get_or, set, sym, refl, ap, subst, arith, get_or-set_other}
 use Rattle.std.specs.List.{cons_option}
 use mathlib.Core.Logic.{dite}

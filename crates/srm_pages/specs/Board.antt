@@ -1,4 +1,4 @@
--- The rule of the board.
+-- The rule of the board: what its registers have, and what each seat may have seen of them.
 use Rattle.std.specs.Prelude.{◌≡◌, ◌≢◌, ℕ, zero, suc, ◌*◌, ◌+◌, ◌-◌, ◌/◌, ◌%◌, ◌^◌, ◌<◌, ◌≤◌, Bool, true, false, List, length, replicate, slice_index, slice_set}
 use mathlib.Core.Option.{some}
 use lib.ListN.{get_elem?}
@@ -17,7 +17,7 @@ count_register slot = slot * REGISTERS_A_SLOT
 abbrev pub number_register : ℕ → ℕ → ℕ
 number_register slot member = slot * REGISTERS_A_SLOT + (member + 1)
 
--- f 0, f 1, .. up to below n, added up
+-- the sum of f 0 to f (n - 1)
 abbrev pub total : (ℕ → ℕ) → ℕ → ℕ
 total f zero = 0
 total f (suc n) = total f n + f n
@@ -30,11 +30,11 @@ drawops_posted registers slot = total (λ member. slice_index registers (number_
 abbrev pub CountsPosted : List ℕ → ℕ → Type 0
 CountsPosted registers slot = drawops_posted registers slot ≤ slice_index registers (count_register slot) - 1
 
--- every register as it is at first
+-- all registers 0, as at first
 unfoldable pub zeros : List ℕ
 zeros = replicate BOARD_REGISTERS 0
 
--- the first seat, which cuts off the seats of the taps in the order of their slots, and else only looks
+-- the first seat: it splits off the taps' seats in order of slot, and otherwise only looks
 abbrev pub dealer : BoardView
 dealer = board_view false 0 true 0 zeros
 

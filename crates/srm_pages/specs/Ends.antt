@@ -1,4 +1,4 @@
--- What contracts see of the ends of lanes and of the well.
+-- What contracts see of the ends of lanes and of the stroke queue.
 use Rattle.std.specs.Prelude.{◌≡◌, ℕ, ◌-◌, nat_lt, Bool, true, false, List, [], ◌∷◌, ◌++◌, length, slice_get, Option, Some, None, Result, Ok, Err}
 use Rattle.std.specs.List.{All}
 use Rattle.atomic_table.specs.Seated.{TableId}
@@ -36,7 +36,7 @@ pub record FeedView : Type 0 where
 abbrev pub credit_of : FeedView → ℕ
 credit_of f = LANE_MESSAGES - (length f.put - f.seen)
 
--- what the tap has taken, whether its lane is known to be at its end, what its seat at the board has in each register, the slot, the lane and the
+-- what the tap has taken, whether its lane is known to have ended, what its seat at the board has in each register, the slot, the lane and the
 -- board
 pub record TapView : Type 0 where
   pub taken : List PageMsg
@@ -71,14 +71,14 @@ AreLanes asked feeds taps viewers =
     (board : TableId) × (length feeds ≡ PAGES) × (length taps ≡ PAGES) × AreNewLanes board feeds taps
     × (length viewers ≡ asked) × All (λ v. v ≡ new_lookout board) viewers
 
--- At Ok the message stands behind those taken, and if it is a close, the lane is known to be at its end. At Err it is known too, and nothing else
+-- At Ok the message stands behind those taken, and after a close the lane is known to have ended. At Err that is known too, and nothing else
 -- changed.
 abbrev pub TookOrEnded : Result PageMsg Ended → TapView → TapView → Type 0
 TookOrEnded (Ok x) old new = new ≡ record old { taken = old.taken ++ x ∷ []; closed = is_close x; seat = new.seat }
 TookOrEnded (Err e) old new = (e ≡ Closed) × (new ≡ record old { closed = true })
 
--- what the well's reader received, how often it found none, how often it had when it last looked at the pens and all said that they are done, which
--- well it is, and how many strokes it holds at most
+-- what the reader received, how often it found none, how often it had when it last looked and all producers were done, which queue it is, and
+-- how many strokes that holds at most
 pub record WellView : Type 0 where
   pub received : List Stroke
   pub nones : ℕ
@@ -86,30 +86,30 @@ pub record WellView : Type 0 where
   pub well : TableId
   pub capacity : ℕ
 
--- the well with nothing received
+-- the queue with nothing received
 abbrev pub new_well : TableId → WellView
 new_well well = record { received = []; nones = 0; done_at = None; well = well; capacity = WELL_STROKES }
 
--- what a look at the pens notes: how often none had been found, where all said that they are done
+-- what a look at the producers notes: how often none had been found, if all are done
 abbrev pub looked_at : Bool → ℕ → Option ℕ
 looked_at true nones = Some nones
 looked_at false nones = None
 
--- none was found since so often
+-- none was found since that look
 abbrev pub found_none_since : Option ℕ → ℕ → Bool
 found_none_since None nones = false
 found_none_since (Some before) nones = nat_lt before nones
 
--- all pens said that they are done, and none was found after that look: nothing more comes
+-- all producers said that they are done, and none was found after that look: no stroke follows
 abbrev pub is_drained : WellView → Bool
 is_drained w = found_none_since w.done_at w.nones
 
--- the pen's number among all, what it sent, and into which well
+-- the producer's number among all, what it sent, and into which queue
 pub record PenView : Type 0 where
   pub number : ℕ
   pub sent : List Stroke
   pub well : TableId
 
--- the k-th pen is of number k, writes into this well, and sent nothing
+-- the k-th producer has the number k, sends into this queue, and sent nothing
 abbrev pub AreNewPens : TableId → List PenView → Type 0
 AreNewPens well pens = (k : ℕ) (p : PenView) → slice_get pens k ≡ Some p → p ≡ record { number = k; sent = []; well = well }

@@ -82,7 +82,7 @@ shown_first : ¬ CountsPosted (2 ∷ 0 ∷ 2 ∷ replicate 261 0) 0
 unfolding drawops_posted
 shown_first order = not-suc-le_self 1 order
 
--- So it is with the very first drawop, and where another member's number is stored first.
+-- The same holds of the very first drawop, and if another member's number is stored first.
 first_shown_first : ¬ CountsPosted (1 ∷ 1 ∷ replicate 262 0) 0
 unfolding drawops_posted
 first_shown_first order = not-suc-le_self 0 order
@@ -164,7 +164,7 @@ module _ (lane : LaneId) (board : TableId) where
   never_broken : (old new : TapView) → TookOrEnded (Err Broken) old new → Broken ≡ Closed
   never_broken old new end = end.0
 
--- The pens said that they are done when two nones had been found: a third one says that the well is empty for good.
+-- All producers were done when two nones had been found: a third one says that the queue is empty for good.
 done_before_the_third : found_none_since (looked_at true 2) 3 ≡ true
 done_before_the_third = refl
 
@@ -174,7 +174,7 @@ not_done_by_a_none_before_the_look = refl
 not_done_where_a_pen_goes_on : found_none_since (looked_at false 2) 3 ≡ false
 not_done_where_a_pen_goes_on = refl
 
--- The part of a pen keeps its order.
+-- The part of a producer keeps its order.
 abbrev stroke : ℕ → ℕ → Stroke
 stroke pen mark = record { pen = pen; page = first_page; body = mark ∷ [] }
 
@@ -184,7 +184,7 @@ of_pen_two = refl
 of_pen_one : strokes_of 1 (stroke 2 7 ∷ stroke 0 8 ∷ []) ≡ []
 of_pen_one = refl
 
--- What pen 2 sent is its part of what was received, and then of what the well holds.
+-- What producer 2 sent is its part of what was received, and then of what the queue holds.
 two_sent : SentIs 2 (stroke 2 7 ∷ stroke 2 9 ∷ []) (stroke 2 7 ∷ stroke 0 8 ∷ []) (stroke 1 5 ∷ stroke 2 9 ∷ [])
 two_sent = refl
 

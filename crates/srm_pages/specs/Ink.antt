@@ -1,4 +1,4 @@
--- The rule of the well.
+-- The rule of the stroke queue: what a producer sent is its part of what was received, and then of what the queue holds.
 use Rattle.std.specs.Prelude.{◌≡◌, ℕ, ◌+◌, ◌<◌, ◌≤◌, ◌==◌, Bool, true, false, List, [], ◌∷◌, ◌++◌, filter}
 use mathlib.Core.Option.{some}
 use lib.ListN.{get_elem?}
@@ -17,7 +17,7 @@ new_pen number = ink_view false [] 0 true number []
 abbrev pub with_one_pen_more : InkView → InkView
 with_one_pen_more v = ink_view v.reads v.received (v.made + 1) v.writes v.pen v.sent
 
--- a reader with a pen beside it, what is left of that pen's own pass, and the two parted again
+-- the reader's pass with a producer's joined to it, what is left of the latter, and the two split again
 abbrev pub with_pen : InkView → InkView → InkView
 with_pen reader pen = ink_view reader.reads reader.received reader.made pen.writes pen.pen pen.sent
 
@@ -30,19 +30,19 @@ reader_of v = ink_view v.reads v.received v.made false 0 []
 abbrev pub pen_of : InkView → InkView
 pen_of v = ink_view false [] 0 v.writes v.pen v.sent
 
--- the strokes of one pen, in order
+-- the strokes of one producer, in order
 abbrev pub strokes_of : ℕ → List Stroke → List Stroke
 strokes_of p xs = filter (λ (x : Stroke). p == x.pen) xs
 
--- what a pen sent is its part of what was received, and then its part of what the well holds
+-- what a producer sent is its part of what was received, and then its part of what the queue holds
 abbrev pub SentIs : ℕ → List Stroke → List Stroke → List Stroke → Type 0
 SentIs pen sent received held = sent ≡ strokes_of pen received ++ strokes_of pen held
 
--- the same of a reader with a pen beside it
+-- the same of a reader with a producer joined
 pub record KnowsPart (v : InkView) (held : List Stroke) : Type 0 where
   pub sent : SentIs v.pen v.sent v.received held
 
--- A pen has what it sent, which is its part of what was received and then what the well holds. The reader has what was received
+-- A producer has what it sent, which is its part of what was received and then of what the queue holds. The reader has what was received
 pub record FitsInk (seat : ℕ → ℕ) (made : ℕ) (received items : List Stroke) (id : ℕ) (v : InkView) : Type 0 where
   pub pen : v.writes ≡ true → (seat v.pen ≡ id) × (v.pen < made) × (v.sent ≡ strokes_of v.pen (received ++ items))
   pub reader : v.reads ≡ true → (id ≡ 0) × (v.received ≡ received) × (v.made ≡ made)

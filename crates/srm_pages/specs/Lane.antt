@@ -1,4 +1,4 @@
--- The rule of a lane.
+-- The rule of a lane: what was put is what was taken and then what the lane holds.
 use Rattle.std.specs.Prelude.{◌≡◌, ℕ, Bool, true, List, [], ◌∷◌, ◌++◌}
 use mathlib.Core.Option.{some}
 use lib.ListN.{get_elem?}

@@ -7,7 +7,7 @@ use Rattle.srm_names.specs.declared.page_msg.PageMsg.TheVariants.{Draw}
 use Rattle.srm_names.specs.PageFeeds.{drawops_of}
 use Rattle.srm_pages.specs.Board.{count_register, number_register, zeros, CountsPosted}
 
--- what one who looks last saw in each register, and which board it is
+-- what a seat that only looks last saw in each register, and which board it is
 pub record LookoutView : Type 0 where
   pub seen : List ℕ
   pub board : TableId

@@ -11,28 +11,28 @@ use srm_names::{MEMBERS, Member, PAGES};
 use std::alloc::Global;
 use std::collections::LinkedList;
 
-/// How many registers a slot has: one for the count, and one for each member.
+/// Registers of one slot: one for the count, and one for each member.
 pub const REGISTERS_A_SLOT: usize = 1 + MEMBERS as usize;
 
-/// How many registers there are.
+/// Registers of the board.
 pub const BOARD_REGISTERS: usize = PAGES as usize * REGISTERS_A_SLOT;
 
-/// The register of a slot that counts the messages taken.
+/// Returns the register of a slot that counts the messages taken.
 pub(crate) fn count_register(slot: u8) -> usize
     ensures { result ≡ count_register slot }
 {
     usize::from(slot) * REGISTERS_A_SLOT
 }
 
-/// The register of a slot that has the number of a member's last drawop.
+/// Returns the register of a slot that has the number of a member's last drawop.
 pub(crate) fn number_register(slot: u8, member: Member) -> usize
     ensures { result ≡ number_register slot member }
 {
     usize::from(slot) * REGISTERS_A_SLOT + (member.index() + 1)
 }
 
-/// What a seat knows: whether it is a tap's and of which slot, whether it deals the slots from `next` on, and the number that it
-/// has last seen of each register. No value of it is made.
+/// What a seat knows: whether it is a tap's and of which slot, whether it deals the slots from `next` on, and the number that it last saw
+/// in each register. It is for contracts: no value of it is made.
 pub struct BoardView {
     pub taps: bool,
     pub slot: u64,
@@ -52,7 +52,7 @@ impl TableRule<u8, BoardView, ()> for BoardRule {
     ghost first = { λ _. dealer };
 }
 
-/// Cuts off the seat of the next slot's tap.
+/// Splits off the seat of the next slot's tap.
 pub struct NextTap;
 
 impl Split<BoardView> for NextTap {
@@ -64,7 +64,7 @@ impl Split<BoardView> for NextTap {
     ghost right = { λ v. board_view true v.next false 0 zeros };
 }
 
-/// Cuts off the seat of one who only looks.
+/// Splits off a seat that only looks.
 pub struct NextLookout;
 
 impl Split<BoardView> for NextLookout {
@@ -75,7 +75,7 @@ impl Split<BoardView> for NextLookout {
     ghost right = { λ v. looking };
 }
 
-/// What a store tells its tap: the register has the number stored.
+/// What a store does to its seat: the register has the number stored.
 pub struct Raises;
 
 impl Play<u8, BoardView> for Raises {
@@ -84,7 +84,7 @@ impl Play<u8, BoardView> for Raises {
     ghost then = { Raised };
 }
 
-/// What a load tells: the number found, which is no less than the one seen before.
+/// What a load does to its seat: it has the number found, which is no less than the one seen before.
 pub struct Looks;
 
 impl Play<u8, BoardView> for Looks {

@@ -1,4 +1,4 @@
-//! The one who deals the seats of a new board.
+//! How the seats of a new board are dealt.
 
 ghost use Rattle.std.specs.Prelude.{◌≡◌, ◌+◌, ◌<◌, IfOk, OnOk};
 ghost use Rattle.srm_names.specs.declared.limits.TheConstants.{PAGES};
@@ -11,7 +11,7 @@ use std::alloc::{AllocError, Global};
 use std::marker::Model;
 use std::sync::Arc;
 
-/// The first seat of a board, from which all others are cut. Contracts see which slot's tap is next.
+/// The first seat of a board, which deals all others. Contracts see which slot's tap is next, and at which board.
 #[derive(Drop)]
 pub struct Dealer {
     board: Arc<Board, Global>,
@@ -35,7 +35,7 @@ impl Model for Dealer {
 }
 
 impl Dealer {
-    /// Makes a board whose registers are all 0.
+    /// Makes a board whose registers are all 0. Fails only if out of memory.
     pub fn new(alloc: Global) -> Result<Dealer, AllocError>
         ensures { IfOk result (λ d. d.next ≡ 0) }
     {
@@ -46,7 +46,7 @@ impl Dealer {
         })
     }
 
-    /// The seat of the next slot's tap.
+    /// Deals the seat of the next slot's tap. Fails only if out of memory.
     pub fn marker(&mut self, slot: u8) -> Result<Marker, AllocError>
         requires { (slot ≡ self.old.next) × (slot < PAGES) }
         ensures dealer { OnOk result (self.new ≡ record self.old { next = self.old.next + 1 }) }
@@ -57,7 +57,7 @@ impl Dealer {
         Ok(Marker { board, seat, slot })
     }
 
-    /// The seat of one who only looks.
+    /// Deals a seat that only looks. Fails only if out of memory.
     pub fn lookout(&mut self) -> Result<Lookout, AllocError>
         ensures dealer { self.new ≡ self.old }
         ensures lookout { IfOk result (λ l. l ≡ new_lookout self.old.board) }
@@ -67,7 +67,7 @@ impl Dealer {
         Ok(Lookout { board, seat })
     }
 
-    /// This seat itself as the last one, which deals no more.
+    /// Turns this seat into the last one that only looks.
     pub fn into_lookout(self) -> Lookout
         ensures { result ≡ new_lookout self.board }
     {

@@ -1,4 +1,4 @@
-//! The types whose names differ from those of the functions [`crate::lanes`] and [`crate::well`] in case alone.
+//! The types whose names differ only in case from the functions [`crate::lanes`] and [`crate::well`].
 
 mod lanes;
 mod well;

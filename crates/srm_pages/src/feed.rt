@@ -1,4 +1,4 @@
-//! The end of a lane that puts messages in.
+//! The node's end of a lane, which puts messages in.
 ghost use Rattle.std.specs.Prelude.{◌≡◌, ◌+◌, ◌<◌, ◌≤◌, [], ◌∷◌, ◌++◌, true, OnOk, IfErr};
 ghost use Rattle.srm_names.specs.PageFeeds.{is_page_feed};
 ghost use Rattle.srm_pages.specs.Ends.{credit_of};
@@ -10,7 +10,9 @@ use srm_names::{LANE_MESSAGES, PageMsg};
 use std::marker::Model;
 use std::sync::Wait;
 
-/// The end of a lane that puts messages in, with the pass that has what was put.
+/// The node's end of a lane, which puts messages in.
+///
+/// Contracts see what was put, how many of these it saw taken, whether a message came back, its slot, its lane and the board.
 #[derive(Drop)]
 pub struct Feed {
     pub(crate) sender: Sender,
@@ -45,21 +47,23 @@ impl Model for Feed {
 }
 
 impl Feed {
+    /// Returns its page slot, 0 to 7.
     pub fn slot(&self) -> u8
         ensures { result ≡ self.now.slot }
     {
         self.slot
     }
 
-    /// Whether a message came back, since the tap is gone.
+    /// Whether [`put`](Feed::put) has returned a message.
     pub fn is_disconnected(&self) -> bool
         ensures { result ≡ self.now.disconnected }
     {
         self.disconnected
     }
 
-    /// How many messages may be put: what a lane holds less what was put and not yet seen taken. What was seen never goes back. It neither
-    /// waits nor takes memory.
+    /// Returns how many messages may be put, 0 to 64: what a lane holds, less what was put and not yet seen taken.
+    ///
+    /// What was seen never falls. Costs one load. It neither waits nor takes memory.
     pub fn credit(&mut self) -> u32
         ensures credit { result ≡ credit_of self.new }
         ensures rises { self.old.seen ≤ self.new.seen }
@@ -69,8 +73,10 @@ impl Feed {
         u64::from(LANE_MESSAGES).saturating_sub(self.count.saturating_sub(seen)) as u32
     }
 
-    /// Puts a message, which is to continue the page feed. It comes back if the tap is gone, and the feed is then marked as disconnected.
-    /// So it does where as many messages were put as a `u64` counts.
+    /// Puts the next message of the page feed. The caller has seen [credit](Feed::credit) for it. Takes no memory.
+    ///
+    /// Returns the message if the tap is gone, or if 2^64 - 1 messages were put before. The feed is then marked as disconnected, and nothing
+    /// else has changed.
     pub fn put<R: Wait>(&mut self, rt: &R, msg: PageMsg) -> Result<(), PageMsg>
         requires credit { 0 < credit_of self.old }
         requires feed { is_page_feed (self.old.put ++ msg ∷ []) ≡ true }
@@ -89,7 +95,7 @@ impl Feed {
         }
     }
 
-    // Marks the feed as disconnected. The message that comes back.
+    // Marks the feed as disconnected, and returns the message.
     fn disconnect(&mut self, back: PageMsg) -> PageMsg
         ensures back { result ≡ back }
         ensures marked { self.new ≡ record self.old { disconnected = true } }

@@ -1,4 +1,4 @@
-//! The rule of the well: the part of a pen in what was received and then what the well holds is what that pen sent.
+//! The rule of the stroke queue: what a producer sent is its part of what was received, and then of what the queue holds.
 
 use crate::stroke::Stroke;
 use crossbeam_queue::protocol::{Join, Lesson, Outcome, Protocol, Split};
@@ -6,8 +6,8 @@ use crossbeam_queue::{Pass, RuledArrayQueue};
 use std::collections::LinkedList;
 use std::sync::atomic::AtomicU64;
 
-/// What a pass knows: the reader what it received and how many pens were made, a pen its number and what it sent. No value of it is
-/// made.
+/// What a pass knows: the reader's what was received and how many producers were made, a producer's its number and what it sent. It is for
+/// contracts: no value of it is made.
 pub struct InkView {
     pub reads: bool,
     pub received: LinkedList<Stroke>,
@@ -17,7 +17,7 @@ pub struct InkView {
     pub sent: LinkedList<Stroke>,
 }
 
-/// The rule of the well.
+/// The rule of the stroke queue.
 pub struct WellRule;
 
 impl Protocol<Stroke, InkView> for WellRule {
@@ -28,7 +28,7 @@ impl Protocol<Stroke, InkView> for WellRule {
     ghost first = { reader };
 }
 
-/// Cuts off the next pen's pass.
+/// Splits off the next producer's pass.
 pub struct NextPen;
 
 impl Split<InkView> for NextPen {
@@ -39,7 +39,7 @@ impl Split<InkView> for NextPen {
     ghost right = { λ v. new_pen v.made };
 }
 
-/// A pen that is done beside the reader, and the cut that parts them again.
+/// Joins the pass of a finished producer to the reader's, and splits them again.
 pub struct Beside;
 
 impl Join<InkView> for Beside {
@@ -58,7 +58,7 @@ impl Split<InkView> for Beside {
     ghost right = { pen_of };
 }
 
-/// What the reader and a pen beside it learn: what the pen sent is its part of what was received, and then of what the well holds.
+/// What a joined pass shows: what the producer sent is its part of what was received, and then of what the queue holds.
 pub struct PartOfPen;
 
 impl Lesson<Stroke, InkView> for PartOfPen {
@@ -67,7 +67,7 @@ impl Lesson<Stroke, InkView> for PartOfPen {
     ghost fact = { KnowsPart };
 }
 
-/// What a push tells: the stroke stands behind those sent before.
+/// What a push does to its pass: the stroke stands behind those sent before.
 pub struct Writing;
 
 impl Outcome<Stroke, InkView> for Writing {
@@ -80,7 +80,7 @@ impl Lesson<Stroke, InkView> for Writing {
     ghost fact = { λ v items. Unit {0} };
 }
 
-/// What a pop tells: the stroke stands behind those received before.
+/// What a pop does to its pass: the stroke stands behind those received before.
 pub struct Reading;
 
 impl Outcome<Stroke, InkView> for Reading {
@@ -97,7 +97,7 @@ pub(crate) type StrokeQueue = RuledArrayQueue<Stroke, InkView, WellRule>;
 
 pub(crate) type InkPass = Pass<Stroke, InkView>;
 
-/// What the well and its pens share: the strokes under way, and how many pens aren't done.
+/// What the ends of the stroke queue share: the strokes under way, and how many producers aren't done.
 #[derive(Drop)]
 pub struct Ink {
     pub(crate) queue: StrokeQueue,

@@ -1,4 +1,4 @@
-//! A lane: a bounded channel of messages, whose rule is that what was put is what was taken and then what the lane holds.
+//! A lane: a bounded channel of messages. Its rule: what was put is what was taken and then what the lane holds.
 ghost use Rattle.std.specs.Prelude.{◌≡◌, true, false, [], ◌++◌};
 
 use crossbeam_channel::protocol::{Join, Lesson, Outcome, Protocol, Split};
@@ -6,7 +6,8 @@ use crossbeam_channel::{Pass, RuledReceiver, RuledSender};
 use srm_names::PageMsg;
 use std::collections::LinkedList;
 
-/// What a pass knows: whether it puts and what it has put, whether it takes and what it has taken. No value of it is made.
+/// What a pass knows: whether it puts and what it has put, whether it takes and what it has taken. It is for contracts: no value of it is
+/// made.
 pub struct LaneView {
     pub puts: bool,
     pub takes: bool,
@@ -26,7 +27,7 @@ impl Protocol<PageMsg, LaneView> for LaneRule {
     ghost first = { lane_view true true [] [] };
 }
 
-/// The cut of the first pass into that of the feed and that of the tap, and their join.
+/// Splits the first pass into the feed's and the tap's, and joins them again.
 pub struct LaneSplit;
 
 impl Split<LaneView> for LaneSplit {
@@ -47,7 +48,7 @@ impl Join<LaneView> for LaneSplit {
     ghost spent = { lane_view false false [] [] };
 }
 
-/// What a put tells: the message stands behind those put before.
+/// What a put does to its pass: the message stands behind those put before.
 pub struct Putting;
 
 impl Outcome<PageMsg, LaneView> for Putting {
@@ -60,7 +61,7 @@ impl Lesson<PageMsg, LaneView> for Putting {
     ghost fact = { λ v items. Unit {0} };
 }
 
-/// What a take tells: the message stands behind those taken before, and they are a page feed.
+/// What a take does to its pass: the message stands behind those taken before, and they are a page feed.
 pub struct Taking;
 
 impl Outcome<PageMsg, LaneView> for Taking {
@@ -73,7 +74,7 @@ impl Lesson<PageMsg, LaneView> for Taking {
     ghost fact = { λ v items. Unit {0} };
 }
 
-/// What both ends together learn: what was put is what was taken, and then what the lane holds.
+/// What a joined pass shows: what was put is what was taken, and then what the lane holds.
 pub struct Total;
 
 impl Lesson<PageMsg, LaneView> for Total {

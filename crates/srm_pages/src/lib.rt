@@ -1,11 +1,12 @@
-//! Lanes, the board and the well: what the thread of a node shares with its page workers, its viewers and its pens.
+//! What the threads of a node share: lanes, the board and the stroke queue.
 //!
-//! A *lane* brings one slot's page feed to its worker, the *board* shows how far each worker is, and the *well* brings the
-//! strokes of the local pens to the node. None has a lock that a caller could hold. Each end belongs to one thread and carries
-//! what this thread knows: contracts see these lists, and no bytes are kept for them.
+//! A *lane* brings the page feed of one page slot to its worker, from a [`Feed`] to a [`Tap`]. The *board* shows feeds and [`Viewer`]s how
+//! far each worker is. The *stroke queue* ([`ends::Well`]) brings the strokes of the local producers ([`Pen`]) to the node. None has a lock
+//! that a caller could hold. Each end belongs to one thread and carries what this thread knows: contracts see these lists, and they take no
+//! bytes.
 //!
-//! [`lanes`] and [`well`] make the ends. The types [`ends::Lanes`] and [`ends::Well`] stand in a module of their own, as two names
-//! that differ in case alone can't stand side by side.
+//! [`lanes`] and [`well`] make the ends. The types [`ends::Lanes`] and [`ends::Well`] stand in a module apart, since two names that differ
+//! only in case can't stand side by side.
 //!
 //! ```
 //! let ends = lanes(alloc, 1)?; // a feed and a tap for each slot, and one viewer
@@ -15,9 +16,9 @@
 //! while let Ok(message) = tap.take(&rt) { /* draw it */ }
 //! ```
 //!
-//! **What is refused.** [`Feed::put`] and [`Pen::stroke`] hand back what they can't bring: where the worker is gone, or the well
-//! is full. [`Tap::take`] ends with [`Ended::Closed`]. To make the ends is refused for want of memory alone. A take waits for the
-//! next message, and a put into a full lane for room; nothing is said of how long.
+//! **Errors.** [`Feed::put`] returns a message if the worker is gone, and [`Pen::stroke`] a stroke if the queue is full. [`Tap::take`] ends
+//! with [`Ended::Closed`]. [`lanes`] and [`well`] fail only if out of memory; no other call can fail for that. A take waits for the next
+//! message; no contract says how long.
 #![tactic(auto)]
 
 mod board;

@@ -1,4 +1,4 @@
-//! One who only looks at the board.
+//! A seat at the board that only looks.
 
 ghost use Rattle.std.specs.Prelude.{◌≡◌, ◌≢◌, ◌%◌, ◌^◌, ◌<◌, ◌≤◌, slice_index, slice_set};
 ghost use Rattle.srm_pages.specs.declared.board.TheConstants.{BOARD_REGISTERS, REGISTERS_A_SLOT};
@@ -30,7 +30,7 @@ impl Model for Lookout {
 }
 
 impl Lookout {
-    /// The number in a register, which is never below one seen there before.
+    /// Returns the number in a register, never below one seen there before. Costs one load.
     pub fn look(&mut self, register: usize) -> u64
         requires { register < BOARD_REGISTERS }
         ensures seen { self.new ≡ record self.old { seen = slice_set self.old.seen register result } }

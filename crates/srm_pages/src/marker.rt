@@ -1,4 +1,4 @@
-//! The one who raises the registers of a slot.
+//! The seat of a slot's tap, which alone raises the registers of that slot.
 
 ghost use Rattle.std.specs.Prelude.{◌≡◌, ◌≢◌, ◌/◌, ◌%◌, ◌^◌, ◌<◌, ◌≤◌, length, slice_index, slice_set};
 ghost use Rattle.crossbeam_channel.specs.Claims.{view as knows};
@@ -38,13 +38,15 @@ impl Model for Marker {
 }
 
 impl Marker {
+    /// Returns its page slot, 0 to 7.
     pub fn slot(&self) -> u8
         ensures { result ≡ self.now.slot }
     {
         self.slot
     }
 
-    /// Stores how many messages were taken. The tap's pass, which has no bytes, shows that they were: the register is never raised before.
+    /// Stores how many messages were taken. The tap's pass, which takes no bytes, shows that they were, so the count is never ahead. Costs
+    /// one store.
     pub fn count(&mut self, pass: &LanePass, count: u64)
         requires taken { count ≤ length (knows pass.now).taken }
         requires rises { slice_index self.old.seat (count_register self.old.slot) ≤ count }
@@ -55,7 +57,7 @@ impl Marker {
         self.raise(count_register(self.slot), count);
     }
 
-    /// Stores the number of a drawop, which is counted by then. Of another message it stores nothing.
+    /// Stores the number of a drawop in its member's register, once the drawop is counted. Of another message it stores nothing.
     pub fn post(&mut self, msg: &PageMsg)
         requires { MayPost self.old msg.now }
         ensures { Posts self.old msg.now self.new }

@@ -1,4 +1,4 @@
-//! The pens' ends of the well.
+//! The producers' ends of the stroke queue, which send.
 
 ghost use Rattle.std.specs.Prelude.{◌≡◌, [], ◌∷◌, ◌++◌, true, OnOk, IfErr};
 ghost use Rattle.crossbeam_queue.specs.Passes.{view as knows, IsPassOf, IsSamePass};
@@ -11,7 +11,7 @@ use std::marker::Model;
 use std::sync::atomic::Ordering;
 use std::sync::{Arc, Wait};
 
-/// A pen, with the pass that has what it sent. Contracts see its number and that list.
+/// A producer: an end of the stroke queue that sends. Contracts see its number, what it sent, and into which queue.
 #[derive(Drop)]
 pub struct Pen {
     pub(crate) ink: Arc<Ink, Global>,
@@ -33,7 +33,7 @@ impl Model for Pen {
     ghost invariant = { λ p. IsPassOf (arc_value p.ink).queue p.pass × ((knows p.pass).writes ≡ true) × ((knows p.pass).pen ≡ p.number) };
 }
 
-/// A pen that is done. Contracts see it as the pen, with what it sent. No bytes are kept of that.
+/// A producer that is done. Contracts see it as the [`Pen`] that it was, with what it sent; that list takes no bytes.
 #[derive(Drop)]
 pub struct Inked {
     pub(crate) pass: InkPass,
@@ -54,14 +54,16 @@ impl Model for Inked {
 }
 
 impl Pen {
-    /// Its number among all pens, from 0.
+    /// Returns its number among the producers, from 0.
     pub fn number(&self) -> u8
         ensures { result ≡ self.now.number }
     {
         self.number
     }
 
-    /// Sends a stroke, whose `pen` is this pen's number. It comes back if the well was full, and then nothing changed.
+    /// Sends a stroke, whose `pen` is this producer's number, behind those that it sent before. Takes no memory.
+    ///
+    /// Returns the stroke if the queue is full; nothing has changed then.
     pub fn stroke<R: Wait>(&mut self, rt: &R, stroke: Stroke) -> Result<(), Stroke>
         requires { stroke.pen ≡ self.old.number }
         ensures ok { OnOk result (self.new ≡ record self.old { sent = self.old.sent ++ stroke ∷ [] }) }
@@ -70,7 +72,7 @@ impl Pen {
         push(rt, &self.ink.queue, &mut self.pass, stroke)
     }
 
-    /// The pen is done, and answers what it sent. The node may leave once all pens are.
+    /// Ends the producer, and returns it with what it sent. The node may leave once all producers are done.
     pub fn done(self) -> Inked
         ensures { result ≡ self }
     {
@@ -80,7 +82,7 @@ impl Pen {
     }
 }
 
-// Pushes a stroke by the pass of its pen.
+// Pushes a stroke with the pass of its producer.
 #[tactic(auto, using(crate::proofs::InkSteps::writes))]
 fn push<R: Wait>(
     rt: &R,

@@ -1,4 +1,4 @@
-//! Both ends of a lane put together.
+//! The comparison of a lane's two ends.
 ghost use Rattle.std.specs.Prelude.{◌≡◌, ◌++◌, List};
 ghost use Rattle.srm_names.specs.declared.page_msg.PageMsg.{PageMsg};
 
@@ -7,7 +7,7 @@ use crate::lane::{LanePass, LaneSplit, Total};
 use crate::tap::Tap;
 use std::marker::Model;
 
-/// What was put into a lane and what was taken. Contracts see two lists, and no bytes are kept.
+/// What was put into a lane, and what was taken. Contracts see the two lists; they take no bytes.
 #[derive(Drop)]
 pub struct Settled {
     pass: LanePass,
@@ -23,7 +23,7 @@ impl Model for Settled {
     ghost view = { λ s. record { put = (knows s.pass).put; taken = (knows s.pass).taken } };
 }
 
-/// Puts the two ends of one lane together.
+/// Compares the two ends of one lane: what was taken is a prefix of what was put. Takes no memory.
 pub fn settle(feed: Feed, tap: Tap) -> Settled
     requires { feed.lane ≡ tap.lane }
     ensures put { result.put ≡ feed.put }

@@ -1,9 +1,9 @@
-//! Strokes of local pens.
+//! Strokes of local producers.
 
 use bytes::Bytes;
 use srm_names::Page;
 
-/// What a local pen drew: the pen's number among all, the page, and the bytes.
+/// What a local producer drew: its number among the producers, the page, and the bytes.
 #[derive(Debug, Drop, PartialEq, Eq)]
 pub struct Stroke {
     pub pen: u8,

@@ -1,4 +1,4 @@
-//! The tap's end of a lane.
+//! The worker's end of a lane, which takes messages out.
 
 ghost use Rattle.std.specs.Prelude.{◌≡◌, true, IsErr};
 ghost use Rattle.srm_names.specs.PageFeeds.{is_page_feed};
@@ -13,18 +13,20 @@ use std::marker::Model;
 use std::sync::Wait;
 use thiserror::Error;
 
-/// Why no message came.
+/// Why a take returned no message.
 #[derive(Clone, Copy, Debug, PartialEq, Eq, Error)]
 pub enum Ended {
-    /// `Close` was taken, or the feed is gone and the lane was empty.
+    /// `Close` was taken, or the feed is gone and the lane is empty, or 2^64 - 1 messages were taken.
     #[error("the lane is closed")]
     Closed = 1,
-    /// Never answered.
+    /// Never returned.
     #[error("the lane is broken")]
     Broken = 2,
 }
 
-/// The tap's end of a lane, with the pass that has what was taken.
+/// The worker's end of a lane, which takes messages out.
+///
+/// Contracts see what was taken, whether a take ended or took the close, what it stored at the board, its slot, its lane and the board.
 #[derive(Drop)]
 pub struct Tap {
     pub(crate) receiver: Receiver,
@@ -59,14 +61,18 @@ impl Model for Tap {
 }
 
 impl Tap {
+    /// Returns its page slot, 0 to 7.
     pub fn slot(&self) -> u8
         ensures { result ≡ self.now.slot }
     {
         self.marker.slot()
     }
 
-    /// Takes the next message, and then stores at the board how many were taken, and for a drawop its number. After `Close` was taken or a take
-    /// ended, each one ends, and nothing else changes.
+    /// Takes the next message, for which it waits, and then stores at the board how many were taken, and for a drawop its number. What was
+    /// taken is always a page feed. Takes no memory.
+    ///
+    /// Returns [`Ended::Closed`] after `Close` was taken, or if the feed is gone and the lane is empty. From then on each take does, and
+    /// nothing else changes.
     #[tactic(auto, using(crate::proofs::Taps::counts_order, crate::proofs::Taps::next_shown))]
     pub fn take<R: Wait>(&mut self, rt: &R) -> Result<PageMsg, Ended>
         ensures taken { TookOrEnded result self.old self.new }

@@ -1,4 +1,4 @@
-//! One who looks at the board.
+//! Viewers: how a thread sees how far the page workers are.
 
 ghost use Rattle.std.specs.Prelude.{◌≡◌, ◌<◌, ◌≤◌, slice_index, slice_set};
 ghost use Rattle.srm_names.specs.declared.limits.TheConstants.{PAGES};
@@ -9,7 +9,7 @@ use crate::lookout::Lookout;
 use srm_names::Member;
 use std::marker::Model;
 
-/// One who looks at the board, in a thread of its own. Contracts see what it last saw in each register.
+/// Sees from another thread how far the page workers are. Contracts see what it last saw in each register, and at which board.
 #[derive(Drop)]
 pub struct Viewer {
     pub(crate) lookout: Lookout,
@@ -24,9 +24,11 @@ impl Model for Viewer {
 }
 
 impl Viewer {
-    /// The number of the last drawop of the member that the slot's tap posted, as far as this viewer sees, 0 before the first. It never falls,
-    /// and neither waits nor takes memory. No clause of this call ties it to the tap, whose seat stands in another thread: that nobody sees
-    /// more than the tap posted is the law [`board_keeps_its_rule`](crate::board_keeps_its_rule).
+    /// Returns the number of the member's last drawop that the worker of a page slot, 0 to 7, has posted, as far as this viewer sees; 0
+    /// before the first. It never falls. Costs one load; it neither waits nor takes memory.
+    ///
+    /// No clause of this call ties the number to the tap, whose seat another thread has. The law
+    /// [`board_keeps_its_rule`](crate::board_keeps_its_rule) says that nobody sees more than the tap posted.
     pub fn look(&mut self, slot: u8, member: Member) -> u32
         requires { slot < PAGES }
         ensures seen { self.new ≡ record self.old { seen = slice_set self.old.seen (number_register slot member) result } }

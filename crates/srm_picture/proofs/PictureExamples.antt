@@ -24,7 +24,8 @@ use Rattle.srm_picture.proofs.Ending.{end_is, same_end}
 use Rattle.srm_picture.proofs.Determining.{actions_are}
 use Rattle.srm_picture.proofs.Showing.{shown}
 
--- the second stored script, from the third drawop to its repair: the loss of the second is asked for in entry 7 and repaired in entry 9
+-- the second stored script, from the third drawop to the repair of the second: member 1 requests it in entry 7, member 2 repairs it in
+-- entry 9
 abbrev repaired : List Entry
 repaired = before_repair ++ asked_of_2 ∷ repairs ∷ repaired_at_1 ∷ []
 
@@ -37,7 +38,7 @@ ends index how = Some (record { entry = index; ending = how })
 abbrev bracket : ℕ → ℕ → ArmKind → Option BracketEnd → Bracket
 bracket index member kind end = record { from = record { entry = index; member = member }; nth = 0; kind = kind; name = named first_stream 2; end = end }
 
--- the request timer ran out, the next one was cancelled by the repair, whose own timer ran out
+-- the request timer expired; the repair cancelled the next one; the repair timer expired
 brackets : AreBrackets repaired (bracket 1 1 Ask (ends 7 RanOut) ∷ bracket 7 1 Ask (ends 10 Cancelled) ∷ bracket 8 2 Fix (ends 9 RanOut) ∷ [])
 brackets = record {
   are = refl;

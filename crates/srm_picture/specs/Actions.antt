@@ -1,4 +1,4 @@
--- What happens at a member by itself.
+-- Local actions: what happens at one member alone.
 use Rattle.std.specs.Prelude.{◌≡◌, ◌↔◌, ℕ, nat_lt, Bool, true, false, List, ◌++◌, length, map, slice_get, Contains, Option, Some, option_map, option_to_list}
 use Rattle.srm_names.specs.declared.page.Page.{Page}
 use Rattle.srm_names.specs.declared.drawop.Drawop.{Drawop}
@@ -21,13 +21,13 @@ abbrev pub is_drawop : PageMsg → Bool
 is_drawop (Draw drawop) = true
 is_drawop _ = false
 
--- a message that is given or taken: of this kind where it is a drawop
+-- the kind of a message that is given or taken: this one if it is a drawop
 abbrev pub message_kind : LocalActionKind → PageMsg → LocalActionKind
 message_kind kind (Draw drawop) = kind
 message_kind kind _ = Other
 
--- What an entry has for its member's lifeline: a drawop was drawn, given or taken; the member is gone, by its farewell; another message was
--- given or taken, a page was shown, the member asked to leave, or it refused.
+-- The kind of local action that an entry shows: a drawop was drawn, given or taken; the member sent its farewell and is gone; another
+-- message was given or taken, the member showed a page or began to leave, or a call failed.
 pub data Shows (e : Entry) : LocalActionKind → Type 0 where
   drew : (page : Page) (body : List ℕ) → done e ≡ Some (Draws page body) → Shows e Drew
   gave : (slot : ℕ) (drawop : Drawop) → done e ≡ Some (Gives slot) → e.effects.message ≡ Some (Draw drawop) → Shows e Gave
@@ -39,11 +39,11 @@ pub data Shows (e : Entry) : LocalActionKind → Type 0 where
   asked : done e ≡ Some AskedLeave → Shows e Other
   refused : (fault : AgentFault) → e.verdict ≡ Refused fault → Shows e Other
 
--- the action of this kind, behind all datagrams that its entry sent
+-- the action of this kind, after all datagrams that its entry sent
 abbrev pub action : ℕ × Entry → LocalActionKind → LocalAction
 action r kind = record { at = point_of r; nth = length r.1.effects.outs; kind = kind }
 
--- it is of an entry that shows its kind
+-- the action is of an entry that shows its kind
 pub record IsAction (es : List Entry) (a : LocalAction) : Type 0 where
   pub entry : Entry
   pub there : slice_get es a.at.entry ≡ Some entry
@@ -59,7 +59,7 @@ pub record AddsAction (index : ℕ) (e : Entry) (old new : List LocalAction) : T
 abbrev pub index_of : LocalAction → ℕ
 index_of a = a.at.entry
 
--- all actions of the entries and no others, in order of the entries, of each one at most
+-- all actions of the entries and no others, in order of the entries, at most one of each
 pub record AreActions (es : List Entry) (actions : List LocalAction) : Type 0 where
   pub in_order : ascending nat_lt (map index_of actions) ≡ true
   pub exact : (a : LocalAction) → Contains actions a ↔ IsAction es a

@@ -1,4 +1,4 @@
--- What was sent and what came, and the arrows of both.
+-- The datagrams that were sent, their arrivals, and the arrows from one to the other.
 use Rattle.std.specs.Prelude.{◌≡◌, ℕ, ◌==◌, Bool, true, false, List, [], ◌∷◌, map, filter, Some, slice_get, if◌then◌else◌}
 use Rattle.std.specs.List.{enumerate_from, AllByRecursion}
 use Rattle.srm_names.specs.Histories.{Step, steps}
@@ -28,7 +28,7 @@ launched_in r = map (launch (point_of r)) (enumerate_from 0 r.1.effects.outs)
 abbrev pub launches_in : List Entry → List Launch
 launches_in es = by_entry launched_in es
 
--- the entry is of a datagram that came: to a member that is gone as noise
+-- the input is the arrival of this datagram; to a gone member it is noise
 abbrev pub IsComing : Datagram → Input → Type 0
 IsComing g (Heard h) = h ≡ g
 IsComing g Noise = Unit {0}
@@ -56,7 +56,7 @@ pub record IsArrival (es : List Entry) (h : Arrival) : Type 0 where
 abbrev pub coming_in : ℕ × Entry → List Point
 coming_in r = if something_comes r.1.input then point_of r ∷ [] else []
 
--- each is a hearing, and each entry in which something came has one, in order
+-- each is an arrival, and each entry of a datagram or noise has one, in order
 pub record AreArrivals (es : List Entry) (hs : List Arrival) : Type 0 where
   pub each : AllByRecursion (IsArrival es) hs
   pub places : map (λ (h : Arrival). h.at) hs ≡ by_entry coming_in es
@@ -70,12 +70,12 @@ arrow_to p h = record { number = p.0; launch = p.1; end = arrow_end h }
 abbrev pub arrivals_of : ℕ → List Arrival → List Arrival
 arrivals_of n hs = filter (λ (h : Arrival). h.number == n) hs
 
--- where there is none, one to nobody
+-- one arrow to nobody, if there is none
 abbrev pub or_lost : ℕ × Launch → List Arrow → List Arrow
 or_lost p [] = record { number = p.0; launch = p.1; end = Lost } ∷ []
 or_lost p (a ∷ arrows) = a ∷ arrows
 
--- a datagram's arrows: one to each hearing, or one to nobody where it never came
+-- a datagram's arrows: one to each arrival, or one to nobody if it never came
 abbrev pub arrows_of : List Arrival → ℕ × Launch → List Arrow
 arrows_of hs p = or_lost p (map (arrow_to p) (arrivals_of p.0 hs))
 

@@ -1,4 +1,4 @@
--- Timers, from the entry that sets them to the one that ends them.
+-- Timers from the entry that sets them to the one that ends them.
 use Rattle.std.specs.Prelude.{◌≡◌, ◌⊎◌, ℕ, ◌<◌, Bool, true, false, ◌||◌, ◌&&◌, List, map, length, slice_get, Option, Some, MatchOption}
 use Rattle.std.specs.List.{enumerate_from, list_any, AllByRecursion}
 use Rattle.srm_names.specs.FullName.{FullName}
@@ -25,7 +25,7 @@ pub record Timer : Type 0 where
   pub kind : ArmKind
   pub name : FullName
 
--- the names that the entry hands out as requests, or as repairs
+-- the names that the entry requests, or repairs
 abbrev pub handed_out : ArmKind → Entry → List FullName
 handed_out Ask e = e.effects.asks
 handed_out Fix e = e.effects.fixes
@@ -37,23 +37,23 @@ hands_out kind n e = among (handed_out kind e) n
 abbrev pub sets_anew : ArmKind → FullName → Entry → Bool
 sets_anew kind n e = list_any (λ (b : Arm). same_kind kind b.kind && same_name n b.name) e.effects.arms
 
--- the drawop that was to be asked for came, or a repair like the one that was to be made
+-- the drawop that a timer was to request came, or a repair like the one that it was to send
 abbrev pub cancelled_by : ArmKind → FullName → Option Datagram → Bool
 cancelled_by Ask n accepted = list_any (λ (d : Drawop). same_name n d.name) (drawops_in accepted)
 cancelled_by Fix n accepted = repairs_in n accepted
 
--- the entry accepts that, or the member goes
+-- the entry accepts that datagram, or the member is gone
 abbrev pub cancels : ArmKind → FullName → Entry → Bool
 cancels kind n e = is_gone e.effects.state || cancelled_by kind n (accepted e)
 
--- How a later entry of the member ends a timer: it ran out where the entry hands its name out; it backed off where the entry sets it anew and
--- doesn't hand its name out; it was cancelled where the entry cancels it and does neither of these.
+-- How a later entry of the member ends a timer. It expired if the entry requests or repairs its name. It backed off if the entry sets it
+-- again without that. It was cancelled if the entry cancels it and does neither.
 abbrev pub EndsLater : ArmKind → FullName → Entry → TimerEnd → Type 0
 EndsLater kind n e RanOut = hands_out kind n e ≡ true
 EndsLater kind n e BackedOff = (hands_out kind n e ≡ false) × (sets_anew kind n e ≡ true)
 EndsLater kind n e Cancelled = (hands_out kind n e ≡ false) × (sets_anew kind n e ≡ false) × (cancels kind n e ≡ true)
 
--- the entry that sets a timer ends it only as the member goes
+-- the entry that sets a timer ends it only if the member is gone by it
 abbrev pub EndsItself : Entry → TimerEnd → Type 0
 EndsItself e how = (is_gone e.effects.state ≡ true) × (how ≡ Cancelled)
 
@@ -73,14 +73,14 @@ pub record Ends (es : List Entry) (t : Timer) (end : BracketEnd) : Type 0 where
   pub so : EndsIn t end.entry entry end.ending
   pub first : NoneEnds es t end.entry
 
--- the timer ends there and so, or None where no entry ends it
+-- the timer ends there and so; None if no entry ends it
 abbrev pub EndIs : List Entry → Timer → Option BracketEnd → Type 0
 EndIs es t end = MatchOption end (NoneEnds es t (length es)) (Ends es t)
 
 abbrev pub timer : Point → Arm → Timer
 timer place a = record { from = place; kind = a.kind; name = a.name }
 
--- with its place among those that its entry sets
+-- a timer with its place among those that its entry sets
 abbrev pub numbered_timer : Point → ℕ × Arm → ℕ × Timer
 numbered_timer place p = (p.0, timer place p.1)
 
@@ -96,7 +96,7 @@ timer_of b = record { from = b.from; kind = b.kind; name = b.name }
 abbrev pub numbered : Bracket → ℕ × Timer
 numbered b = (b.nth, timer_of b)
 
--- the bracket ends where, and as, its timer does
+-- the bracket ends where its timer does, and how it does
 abbrev pub EndsRight : List Entry → Bracket → Type 0
 EndsRight es b = EndIs es (timer_of b) b.end
 

@@ -1,4 +1,4 @@
--- What is made of entries one by one, each with its place.
+-- Lists made of entries one by one, each with its place.
 use Rattle.std.specs.Prelude.{ℕ, List}
 use Rattle.std.specs.List.{flat_map, enumerate_from}
 use Rattle.srm_entries.specs.declared.entry.Entry.{Entry}

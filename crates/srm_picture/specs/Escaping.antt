@@ -1,4 +1,4 @@
--- Text in XML.
+-- Escaping text for XML.
 use Rattle.std.specs.Prelude.{ℕ, ◌==◌, nat_le, ◌&&◌, List, [], ◌∷◌, codes, if◌then◌else◌}
 use Rattle.std.specs.List.{flat_map}
 
@@ -9,11 +9,11 @@ space = 32
 abbrev tilde : ℕ
 tilde = 126
 
--- what isn't that is a question mark
+-- a byte that isn't printable ASCII becomes a question mark
 abbrev pub printable : ℕ → List ℕ
 printable byte = if nat_le space byte && nat_le byte tilde then byte ∷ [] else codes "?"
 
--- what has a meaning in XML is spelled out
+-- a byte with a meaning in XML becomes an entity
 abbrev pub escape : ℕ → List ℕ
 escape byte =
     if byte == 38 then codes "&amp;"

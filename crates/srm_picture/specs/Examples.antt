@@ -1,4 +1,4 @@
--- Arrows, ends of timers, local actions and text at worked values.
+-- Arrows, ends of timers, local actions and text, on examples.
 use Rattle.std.specs.Prelude.{◌≡◌, true, false, [], ◌∷◌, codes, Some, refl}
 use Rattle.std.proofs.lemmas.Bool.{true≢false, false≢true}
 use Rattle.srm_names.specs.declared.page_msg.PageMsg.TheVariants.{Open, Draw}
@@ -44,14 +44,15 @@ spelled_out = refl
 unprintable : escaped (10 ∷ 200 ∷ []) ≡ codes "??"
 unprintable = refl
 
--- the second stored script: member 1 sets a request timer for the second drawop as it hears the third, asks as that runs out, and hears the repair
+-- the second stored script: member 1 sets a request timer for the second drawop when it hears the third, requests it when that expires,
+-- and hears the repair
 set_by_hearing : timers_in (1, hears 1 31 (datagrams.Data third_drawop) (ask_arm 2 0 200000 ∷ [])) ≡ (0, record { from = record { entry = 1; member = 1 }; kind = Ask; name = named first_stream 2 }) ∷ []
 set_by_hearing = refl
 
 abbrev asking : Entry
 asking = ticks 1 200031 (named first_stream 2 ∷ []) [] (ask_arm 2 1 400000 ∷ []) (asks_b ∷ [])
 
--- it sets the timer anew too, but asks
+-- it sets the timer again too, but requests the name
 asking_runs_out : EndsLater Ask (named first_stream 2) asking RanOut
 asking_runs_out = refl
 

@@ -9,7 +9,7 @@ use Rattle.srm_picture.specs.OneThat.{IsOneThat}
 use Rattle.srm_picture.specs.Brackets.{Timer, EndIs, AreBrackets}
 use Rattle.srm_picture.specs.Actions.{Shows, AreActions}
 
--- a timer has exactly one end, or exactly none
+-- a timer has exactly one end, or none
 abbrev pub OneEndLaw : Type 0
 OneEndLaw = (es : List Entry) (t : Timer) → (end : Option BracketEnd) × EndIs es t end × ((other : Option BracketEnd) → EndIs es t other → other ≡ end)
 

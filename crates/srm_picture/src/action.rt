@@ -1,4 +1,4 @@
-//! What happens at a member by itself.
+//! Local actions: what happens at one member alone.
 
 ghost use Rattle.std.specs.Prelude.{◌≡◌, if◌then◌else◌, Some, None, option_map, IfOk, OnOk};
 ghost use Rattle.srm_entries.specs.declared.entry.Verdict.TheVariants.{Done};
@@ -15,15 +15,15 @@ use std::alloc::{AllocError, Global};
 /// What a notch on a lifeline stands for.
 #[derive(Clone, Copy, Debug, PartialEq, Eq)]
 pub enum LocalActionKind {
-    /// A drawop was drawn.
+    /// The member drew a drawop.
     Drew,
-    /// A drawop was given to a page worker.
+    /// The member gave a drawop to a page worker.
     Gave,
-    /// A drawop was taken by a page worker.
+    /// A page worker took a drawop.
     Took,
-    /// Another message was given or taken, a page was shown, the member began to leave, or it refused.
+    /// Another message was given or taken, the member showed a page or began to leave, or a call failed.
     Other,
-    /// The member is gone.
+    /// The member sent its farewell, and is gone.
     Gone,
 }
 
@@ -31,12 +31,12 @@ pub enum LocalActionKind {
 #[derive(Clone, Copy, Debug, PartialEq, Eq)]
 pub struct LocalAction {
     pub at: Point,
-    /// How many datagrams its entry sent before.
+    /// How many datagrams its entry sent. The notch is drawn below these.
     pub nth: usize,
     pub kind: LocalActionKind,
 }
 
-/// The notches of a trace, in order.
+/// The notches of a trace, in order. Fails only if out of memory.
 pub(crate) fn actions(alloc: Global, entries: &[Entry]) -> Result<Vec<LocalAction>, AllocError>
     ensures { IfOk result (λ actions. AreActions entries.now actions.items) }
 {
@@ -47,7 +47,7 @@ pub(crate) fn actions(alloc: Global, entries: &[Entry]) -> Result<Vec<LocalActio
     Ok(actions)
 }
 
-/// Adds what an entry has for its lifeline, if there is something.
+/// Appends the notch of an entry, if it has one.
 fn push_action(
     actions: &mut Vec<LocalAction>,
     index: usize,
@@ -68,7 +68,7 @@ fn push_action(
     }
 }
 
-/// What an entry has for its lifeline, if there is something.
+/// The kind of notch that an entry has, if it has one.
 fn kind_in(entry: &Entry) -> Option<LocalActionKind>
     ensures { IsOneThat (Shows entry.now) result }
 {

@@ -3,22 +3,22 @@
 use crate::point::Point;
 use srm_entries::DatagramKind;
 
-/// That a datagram was sent.
+/// The sending of a datagram.
 #[derive(Clone, Copy, Debug, PartialEq, Eq)]
 pub struct Launch {
     pub from: Point,
-    /// Its place among what this entry sent, from 0.
+    /// Its place from 0 among the datagrams that this entry sent.
     pub nth: usize,
     pub kind: DatagramKind,
 }
 
-/// That a datagram came to a member.
+/// The arrival of a datagram at a member.
 #[derive(Clone, Copy, Debug, PartialEq, Eq)]
 pub struct Arrival {
     /// Its number, from 0 in the order of sending.
     pub number: usize,
     pub at: Point,
-    /// Whether it was accepted, and not ignored.
+    /// Whether the member accepted it, and didn't ignore it.
     pub accepted: bool,
 }
 
@@ -31,7 +31,7 @@ pub enum ArrowEnd {
     Lost,
 }
 
-/// A datagram on its way to one that hears it, or to nobody.
+/// The way of a datagram from its sender to one member that it came to, or to nobody.
 #[derive(Clone, Copy, Debug, PartialEq, Eq)]
 pub struct Arrow {
     /// Its number, from 0 in the order of sending.

@@ -10,7 +10,7 @@ use srm_codec::Datagram;
 use srm_entries::{DatagramKind, Entry};
 use std::alloc::{AllocError, Global};
 
-/// Each datagram that was sent, in order of sending.
+/// The sending of each datagram, in order. Fails only if out of memory.
 pub(crate) fn launches(alloc: Global, entries: &[Entry]) -> Result<Vec<Launch>, AllocError>
     ensures { IfOk result (λ launches. launches.items ≡ launches_in entries.now) }
 {
@@ -25,7 +25,7 @@ pub(crate) fn launches(alloc: Global, entries: &[Entry]) -> Result<Vec<Launch>, 
     Ok(launches)
 }
 
-/// The datagrams that one entry sent.
+/// The sending of each datagram of one entry.
 fn launched(alloc: Global, from: &Point, outs: &[Datagram]) -> Result<Vec<Launch>, AllocError>
     ensures { IfOk result (λ launches. launches.items ≡ map (launch from.now) (enumerate_from 0 outs.now)) }
 {
@@ -46,7 +46,7 @@ fn launch_of(from: &Point, nth: usize, datagram: &Datagram) -> Launch
     }
 }
 
-/// Each datagram's arrows: one to each hearing, or one to nobody where it was never delivered.
+/// The arrows of each datagram: one to each arrival, or one to nobody if it was never delivered. Fails only if out of memory.
 pub(crate) fn arrows(
     alloc: Global,
     launches: &[Launch],
@@ -81,7 +81,7 @@ fn arrows_of(
     Ok(arrows)
 }
 
-/// The arrows of one datagram that reach somebody.
+/// The arrows of one datagram to its arrivals.
 fn reaching(
     alloc: Global,
     number: usize,

@@ -1,4 +1,4 @@
-//! Timers, from when they were set to their end.
+//! Brackets: timers from when they were set to their end.
 
 use crate::point::Point;
 use srm_entries::ArmKind;
@@ -7,30 +7,30 @@ use srm_names::Name;
 /// How a timer ends.
 #[derive(Clone, Copy, Debug, PartialEq, Eq)]
 pub enum TimerEnd {
-    /// It ran out: the member asks, or repairs.
+    /// It expired: the member requests or repairs the name.
     RanOut,
-    /// It was set anew before it ran out, as another member asked.
+    /// It was set again before it expired, since another member requested the name.
     BackedOff,
-    /// What it was to ask for or to repair came from another, or the member is gone.
+    /// The drawop that it was to request came, another member sent the repair that it was to send, or the member is gone.
     Cancelled,
 }
 
-/// The entry of the same member that ends a timer, by its place in the trace, and how.
+/// The entry that ends a timer, of the same member, by its place in the trace from 0; and how it ends it.
 #[derive(Clone, Copy, Debug, PartialEq, Eq)]
 pub struct BracketEnd {
     pub entry: usize,
     pub ending: TimerEnd,
 }
 
-/// A timer.
+/// A timer that was set.
 #[derive(Clone, Copy, Debug, PartialEq, Eq)]
 pub struct Bracket {
     /// The entry that set it.
     pub from: Point,
-    /// Its place among what this entry set, from 0.
+    /// Its place from 0 among the timers that this entry set.
     pub nth: usize,
     pub kind: ArmKind,
     pub name: Name,
-    /// None where it still runs after the last entry.
+    /// Its end; `None` if it still runs after the last entry.
     pub end: Option<BracketEnd>,
 }

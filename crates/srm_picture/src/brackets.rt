@@ -13,7 +13,7 @@ use srm_entries::{Arm, ArmKind, Entry};
 use std::alloc::{AllocError, Global};
 use std::cmp::Ordering;
 
-/// Each timer that was set, in order.
+/// The bracket of each timer that was set, in order. Fails only if out of memory.
 pub(crate) fn brackets(alloc: Global, entries: &[Entry]) -> Result<Vec<Bracket>, AllocError>
     ensures { IfOk result (λ brackets. AreBrackets entries.now brackets.items) }
 {
@@ -28,7 +28,7 @@ pub(crate) fn brackets(alloc: Global, entries: &[Entry]) -> Result<Vec<Bracket>,
     Ok(brackets)
 }
 
-/// The timers that one entry set.
+/// The brackets of the timers that one entry set.
 fn brackets_from(
     alloc: Global,
     entries: &[Entry],
@@ -57,7 +57,7 @@ fn bracket_of(entries: &[Entry], from: &Point, nth: usize, arm: &Arm) -> Bracket
     }
 }
 
-/// The first entry of its member that ends a timer. One that is set as its member goes ends at once.
+/// The first entry of its member that ends a timer. A timer that the farewell's tick sets ends at once.
 fn end_of(entries: &[Entry], from: &Point, arm: &Arm) -> Option<BracketEnd>
     ensures { EndIs entries.now (timer from.now arm.now) result }
 {
@@ -72,7 +72,7 @@ fn end_of(entries: &[Entry], from: &Point, arm: &Arm) -> Option<BracketEnd>
     None
 }
 
-/// How the entry of this index ends a timer, if it does. The one that sets it ends it only as the member goes.
+/// How the entry of this index ends a timer, if it does. The entry that sets it ends it only if the member is gone by it.
 fn ending_in(index: usize, entry: &Entry, from: &Point, arm: &Arm) -> Option<TimerEnd>
     ensures { IsOneThat (EndsIn (timer from.now arm.now) index entry.now) result }
 {
@@ -112,7 +112,7 @@ fn ends_itself(entry: &Entry) -> Option<TimerEnd>
     }
 }
 
-/// Whether the entry hands out what the timer is for.
+/// Whether the entry requests or repairs the name of the timer, as its kind is.
 fn is_handed_out(entry: &Entry, arm: &Arm) -> bool
     ensures { result ≡ among (handed_out arm.now.kind entry.now) arm.now.name }
 {
@@ -135,7 +135,7 @@ fn is_set(entry: &Entry, arm: &Arm) -> bool
         .any(|other| arm.kind == other.kind && arm.name == other.name)
 }
 
-/// Whether the entry takes what the timer was to ask for, or a repair like the one that it was to make.
+/// Whether the entry accepts the drawop that the timer was to request, or a repair like the one that it was to send.
 fn is_answered(entry: &Entry, arm: &Arm) -> bool
     ensures { result ≡ cancelled_by arm.now.kind arm.now.name (accepted entry.now) }
 {

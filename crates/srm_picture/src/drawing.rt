@@ -1,4 +1,4 @@
-//! Pictures as SVG.
+//! Drawing pictures as SVG.
 
 mod frame;
 mod labels;
@@ -12,7 +12,9 @@ use std::alloc::Global;
 use std::io;
 use std::io::Write;
 
-/// Writes a picture of a session as SVG. Refused is what the output refuses, and want of memory.
+/// Writes the picture of a session as one SVG file. `subject` is the session that the picture was made of.
+///
+/// Fails if the output does, or if out of memory; what was written before stays in the output.
 pub fn write_svg<W: Write>(
     alloc: Global,
     out: &mut W,

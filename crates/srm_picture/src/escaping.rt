@@ -1,11 +1,12 @@
-//! Text in XML.
+//! Escaping text for XML.
 
 ghost use Rattle.std.specs.Prelude.{◌≡◌, ◌++◌, IfOk, OnOk};
 ghost use Rattle.srm_picture.specs.Escaping.{escape as escape_of, escaped as escaped_text};
 
 use std::alloc::{AllocError, Global};
 
-/// The text as XML has it: what has a meaning there is spelled out, and a byte that isn't printable ASCII is shown as `?`.
+/// Escapes text for XML: `&`, `<`, `>` and `"` become entities, and a byte that isn't printable ASCII becomes `?`. Fails only if out of
+/// memory.
 pub fn escaped(alloc: Global, text: &[u8]) -> Result<Vec<u8>, AllocError>
     ensures { IfOk result (λ bytes. bytes.items ≡ escaped_text text.now) }
 {

@@ -1,4 +1,4 @@
-//! Where things stand in a drawing, in pixels.
+//! Where shapes stand in a drawing, in pixels.
 
 ghost use Rattle.std.specs.Prelude.{◌*◌, ◌<◌, ◌≤◌};
 
@@ -9,39 +9,39 @@ use srm_entries::Entry;
 use srm_names::{MEMBERS, Member};
 use std::alloc::{AllocError, Global};
 
-/// From one line to the next.
+/// The height of a line.
 pub(crate) const LINE: u64 = 24;
 
-/// Above the first line: the title and the members' names.
+/// The height above the first line, for the title and the members' names.
 const HEAD: u64 = 92;
 
-/// Below the last line: the legend.
+/// The height below the last line, for the legend.
 const FOOT: u64 = 136;
 
-/// Left of all lifelines: the moments.
+/// The width left of all lifelines, for the moments.
 pub(crate) const MOMENTS: u64 = 112;
 
-/// Right of the last lifeline: its labels.
+/// The width right of the last lifeline, for its labels.
 const LABELS: u64 = 220;
 
-/// The legend needs so much.
+/// The width that the legend needs.
 const LEAST_WIDTH: u64 = 700;
 
-/// From one bracket to the next beside it.
+/// The width from one bracket to the next beside it.
 const COLUMN: u64 = 9;
 
-/// Brackets side by side at a lifeline, at most: those past these lie on the last.
+/// How many brackets stand side by side at a lifeline at most; any more are drawn over the last.
 const COLUMNS: usize = 8;
 
 /// Where the lines of each entry stand, and which column each bracket has.
 #[derive(Drop)]
 pub(crate) struct Layout {
     members: u64,
-    /// The first line of each entry, and behind them the line after the last.
+    /// The first line of each entry, and then the line after the last.
     lines: Vec<u64>,
-    /// Of each bracket.
+    /// The column of each bracket.
     columns: Vec<u64>,
-    /// Columns that are used, at most [`COLUMNS`].
+    /// How many columns are used, at most [`COLUMNS`].
     used: u64,
 }
 
@@ -72,7 +72,7 @@ impl Layout {
             .saturating_add(member.saturating_mul(self.pitch()))
     }
 
-    /// Whether no lifeline stands right of a member's, and one stands left of it.
+    /// Whether a member's lifeline is the last one, and not the only one.
     pub fn is_last(&self, member: Member) -> bool {
         let place = u64::from(member.number());
         place > 0 && place.saturating_add(1) >= self.members
@@ -107,7 +107,7 @@ impl Layout {
         self.bottom().saturating_add(FOOT)
     }
 
-    /// From one lifeline to the next.
+    /// The width from one lifeline to the next.
     fn pitch(&self) -> u64 {
         let column = match self.members {
             0..=4 => 190,
@@ -117,7 +117,7 @@ impl Layout {
         self.gutter().saturating_add(column)
     }
 
-    /// Left of each lifeline: its brackets, and half of the member's name above them.
+    /// The width left of each lifeline, for its brackets and half of the member's name above them.
     fn gutter(&self) -> u64 {
         self.used.saturating_mul(COLUMN).saturating_add(36)
     }
@@ -139,14 +139,14 @@ fn lines_of(alloc: Global, entries: &[Entry]) -> Result<Vec<u64>, AllocError> {
     Ok(lines)
 }
 
-/// The line after those of an entry: it has one for each datagram that it sent, one for going, and at least one.
+/// The line after those of an entry: an entry has one for each datagram that it sent, one if the member is gone by it, and at least one.
 fn lines_after(line: u64, entry: &Entry) -> u64 {
     let sent = entry.effects.outs.as_slice().len() as u64;
     let gone = u64::from(entry.effects.becomes_gone());
     line.saturating_add(sent.saturating_add(gone).max(1))
 }
 
-/// Of each bracket the first column that is free at its member as it begins.
+/// The column of each bracket: the first that is free at its member when it begins.
 fn columns_of(alloc: Global, brackets: &[Bracket]) -> Result<Vec<u64>, AllocError> {
     let mut columns = Vec::new(alloc);
     let mut busy = vec![in alloc; 0; COLUMNS * usize::from(MEMBERS)]?;
@@ -161,7 +161,7 @@ fn columns_of(alloc: Global, brackets: &[Bracket]) -> Result<Vec<u64>, AllocErro
     Ok(columns)
 }
 
-/// The first column of a member that is free from an entry on, or the last; it is then busy up to another entry.
+/// Takes the first column of a member that is free from an entry on, or the last, up to another entry.
 fn column_of(busy: &mut [usize], member: Member, from: usize, until: usize) -> u64 {
     let first = member.index() * COLUMNS;
     let column = free_column(busy, first, from);

@@ -1,14 +1,14 @@
-//! Pictures of sessions: a lifeline for each member, time downwards, and each datagram an arrow.
+//! Pictures of sessions as SVG: a lifeline for each member, time downwards, and an arrow for each datagram.
 //!
 //! ```
 //! let picture = Picture::of(alloc, entries, arrivals)?;
 //! write_svg(alloc, &mut out, &Subject { members: 2, entries, lines }, &picture)?;
 //! ```
 //!
-//! [`Picture`] is what is to be drawn: arrows, brackets and local actions, each by the entries that it speaks of. [`write_svg`] draws it. Which datagram
-//! came in an entry is the caller's to say, by [`Arrival`]: an entry has the datagram and not its number.
+//! [`Picture`] says what to draw: arrows, brackets for timers, and local actions, each with the entries that it is of. [`write_svg`]
+//! draws it. The caller says by [`Arrival`] which datagram came in an entry, since an entry has the datagram but not its number.
 //!
-//! **What is refused.** Want of memory, and what the output refuses.
+//! **Errors.** [`Picture::of`] and [`escaped`] fail only if out of memory; [`write_svg`] also if the output does.
 #![tactic(auto)]
 
 mod action;

@@ -1,4 +1,4 @@
-//! What is to be drawn.
+//! What a picture shows.
 
 ghost use Rattle.std.specs.Prelude.{IfOk};
 ghost use Rattle.srm_picture.specs.Pictures.{Depicts};
@@ -11,10 +11,10 @@ use crate::brackets::brackets;
 use srm_entries::Entry;
 use std::alloc::{AllocError, Global};
 
-/// What is to be drawn of a session: shapes, each by the entries that it speaks of.
+/// What a picture of a session shows: shapes, each with the entries that it is of.
 #[derive(Debug, Drop)]
 pub struct Picture {
-    /// By datagram, and then by hearing.
+    /// In order of datagram, and then of arrival.
     pub arrows: Vec<Arrow>,
     /// In the order in which the timers were set.
     pub brackets: Vec<Bracket>,
@@ -23,7 +23,10 @@ pub struct Picture {
 }
 
 impl Picture {
-    /// The picture of what happened, in which these datagrams came. Only want of memory refuses it.
+    /// Makes the picture of these entries, oldest first, with these arrivals of datagrams. It has an arrow from each datagram to each of
+    /// its arrivals, or to nobody if there is none; a bracket for each timer; and the local actions.
+    ///
+    /// Fails only if out of memory. May go through all entries for each timer, and goes through all arrivals for each datagram.
     pub fn of(alloc: Global, entries: &[Entry], arrivals: &[Arrival]) -> Result<Picture, AllocError>
         ensures { IfOk result (Depicts entries.now arrivals.now) }
     {

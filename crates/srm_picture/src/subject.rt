@@ -1,20 +1,20 @@
-//! What is drawn beside the shapes.
+//! The session that a picture is of.
 
 use srm_entries::Entry;
 
-/// A session, of which there is a picture.
+/// The session that a picture is of: what a drawing needs besides the shapes.
 #[derive(Drop)]
 pub struct Subject<'a> {
-    /// How many members there are. They have the numbers from 0.
+    /// How many members there are. They are numbered from 0.
     pub members: u8,
     /// What happened, oldest first.
     pub entries: &'a [Entry],
-    /// Of each entry its lines, as `srm world` prints them with timers, each with its line feed.
+    /// The lines of each entry, as `srm world` prints them with timers, each with its line feed.
     pub lines: &'a [Vec<u8>],
 }
 
 impl Subject<'_> {
-    /// The lines of an entry.
+    /// Returns the lines of an entry, by its place from 0; none if there is no such entry.
     pub fn lines_of(&self, index: usize) -> &[u8] {
         match self.lines.get(index) {
             Some(lines) => lines.as_slice(),

@@ -32,7 +32,7 @@ newest_step : (es : List Entry) (e : Entry) → slice_get (steps (es ++ e ∷ []
 newest_step es e =
     ap (λ ss. slice_get ss (length es)) (steps-snoc es e) ∙ ap (λ n. slice_get (steps es ++ record { before = es; this = e } ∷ []) n) (sym (length-steps_after [] es)) ∙ at_end (steps es) (record { before = es; this = e })
 
--- a hearing stays one as more happens
+-- an arrival stays one as entries are added
 still : (es : List Entry) (e : Entry) (h : Arrival) → IsArrival es h → IsArrival (es ++ e ∷ []) h
 still es e h is = record {
   step = is.step;
@@ -57,7 +57,7 @@ comings-snoc es e =
     zero_more : (n : ℕ) → 0 + n ≡ n
     zero_more n = omega arith
 
--- what an event asks
+-- the input of an event
 
 asked_input : (starts : List Start) (es : List Entry) (event : Event) (input : Input) → required_input starts es event ≡ Some input → input_of es event ≡ Some input
 asked_input starts es event input e = which (nat_lt (member_of event) (length starts)) (input_of es event) e

@@ -1,4 +1,4 @@
--- A script that is played event by event.
+-- Playing a script event by event.
 use Rattle.std.proofs.Common.{◌≡◌, List, [], ◌∷◌, ◌++◌, length, refl, ap, sym, ◌∙◌, subst}
 use Rattle.std.specs.Prelude.{Option, Some, None, drop, MatchOption}
 use Rattle.std.specs.List.{enumerate_from, flat_map}
@@ -27,7 +27,7 @@ one_added es e = ap (enumerate_from (length es)) (drop_front es)
     drop_front [] = refl
     drop_front (x ∷ xs) = drop_front xs
 
--- after an event each hearing is right still
+-- after an event each arrival is still right
 pub right_after : (old new : Trace) (event : Event) (hs heard : List Arrival) → PlaysOne (record { trace = old; arrivals = hs }) event (record { trace = new; arrivals = heard }) → AreArrivals old.entries hs → AreArrivals new.entries heard
 right_after old new event hs heard one all = which (required_input old.starts old.entries event) refl one.follows
   where
@@ -43,7 +43,7 @@ right_after old new event hs heard one all = which (required_input old.starts ol
         subst (λ xs. AreArrivals new.entries xs) (sym more)
         (subst (λ es. AreArrivals es (hs ++ came (delivered_number event) (length old.entries, e))) (sym grown) (right_more old.starts old.entries event e hs (a ∙ ap Some (sym is.input_is)) all))
 
--- whatever the events that are left come to from here, all events come to from the beginning
+-- if playing the events that are left results in something from here, playing all events results in it from the beginning
 pub record Reaches (begun : PlayedContent) (events : List Event) (now : PlayedContent) (left : List Event) : Type 0 where
   pub goes_on : (end : PlayedContent) → Plays now left end → Plays begun events end
 

@@ -1,4 +1,4 @@
--- Statuses, and what came in entries, at worked values.
+-- Statuses, and what came in entries, on examples.
 use Rattle.std.specs.Prelude.{◌≡◌, true, false, [], ◌∷◌, map, Some, None, refl}
 use Rattle.srm_script.specs.declared.fault.ScriptFault.TheVariants.{BadLine, Memory}
 use Rattle.srm_entries.specs.declared.entry.Entry.{Entry}

@@ -1,4 +1,4 @@
--- What the events of a script come to: the trace of a world, and which datagram came in which entry.
+-- What playing the events of a script results in: the trace of a world, and which datagram came in which entry.
 use Rattle.std.specs.Prelude.{◌≡◌, ℕ, List, [], ◌∷◌, ◌++◌, length, drop, Option, Some, None, option_map, option_to_list}
 use Rattle.std.specs.List.{flat_map, enumerate_from}
 use Rattle.srm_entries.specs.declared.entry.Entry.{Entry}
@@ -25,25 +25,25 @@ abbrev pub delivered_number : Event → Option ℕ
 delivered_number (Deliver member now index) = Some index
 delivered_number _ = None
 
--- that the datagram with this number came in an entry
+-- the arrival of the datagram with this number, in an entry
 abbrev pub arrival_in : ℕ × Entry → ℕ → Arrival
 arrival_in r number = record { number = number; at = point_of r; accepted = is_done r.1.verdict }
 
--- what came in an entry, by the number that its event has
+-- what came in an entry, by the number in its event
 abbrev pub came : Option ℕ → ℕ × Entry → List Arrival
 came number r = option_to_list (option_map (arrival_in r) number)
 
--- the new entries behind the old ones, each with its place
+-- the entries that were added to the old ones, each with its place
 abbrev pub added : List Entry → List Entry → List (ℕ × Entry)
 added old new = enumerate_from (length old) (drop (length old) new)
 
--- an event: the trace goes on as that of a world, and what came in the entry that was added, if one was, is noted
+-- Playing one event: the trace grows as that of a world does, and what came in the entry that was added, if one was, is noted.
 pub record PlaysOne (old : PlayedContent) (event : Event) (new : PlayedContent) : Type 0 where
   pub starts : new.trace.starts ≡ old.trace.starts
   pub follows : FollowsOne old.trace.starts old.trace.entries event new.trace.entries
   pub arrivals : new.arrivals ≡ old.arrivals ++ flat_map (came (delivered_number event)) (added old.trace.entries new.trace.entries)
 
--- events in order
+-- playing events in order
 abbrev pub Plays : PlayedContent → List Event → PlayedContent → Type 0
 Plays old [] new = new ≡ old
 Plays old (event ∷ events) new = (between : PlayedContent) × PlaysOne old event between × Plays between events new

@@ -1,4 +1,4 @@
--- With which status the program ends.
+-- The status that the program ends with.
 use Rattle.std.specs.Prelude.{ℕ}
 use Rattle.srm_script.specs.declared.status.TheConstants.{FAILED}
 use Rattle.srm_script.specs.Statuses as script
@@ -10,6 +10,6 @@ abbrev pub status_of : PictureFault → ℕ
 status_of (Script fault) = script.status_of fault
 status_of TooManyEvents = FAILED
 
--- the status is that of success, or of a fault
+-- the status is 0, or that of a fault
 abbrev pub IsStatus : ℕ → Type 0
 IsStatus status = IsStatusBy status_of status

@@ -23,7 +23,8 @@ pub enum PictureFault {
 }
 
 impl PictureFault {
-    /// Prints the fault on standard error, and answers the status that the program ends with.
+    /// Prints the fault as a line to `err`, and returns the status that the program ends with: 1, and 4 if out of memory. A fault of
+    /// `err` itself is ignored.
     pub fn print<E: Write>(&self, err: &mut E) -> u8
         ensures { result ≡ status_of self.now }
     {

@@ -1,4 +1,4 @@
-//! Which datagram came in an entry.
+//! Noting which datagram came in an entry.
 
 ghost use Rattle.std.specs.Prelude.{◌≡◌, ◌<◌, ◌++◌, vec_len, vec_capacity, OnOk, OnErr};
 ghost use Rattle.srm_world.specs.Events.{IsTimely};
@@ -9,8 +9,9 @@ use srm_picture::{Arrival, Point};
 use srm_timers::Listed;
 use srm_world::{Event, World, WorldFault};
 
-/// Applies an event to a world, and notes the datagram that came, where one did. Answers whether the event left an entry. Refused is want of
-/// memory, and then all is as before.
+/// Applies an event to a world, and notes the datagram that came, if one did. Returns whether the event left an entry.
+///
+/// Fails only if out of memory: the trace and the arrivals are unchanged.
 pub(crate) fn advance(
     world: &mut World<Listed>,
     arrivals: &mut Vec<Arrival>,
@@ -41,7 +42,7 @@ fn number_of(event: &Event) -> Option<usize>
     }
 }
 
-/// Notes that the datagram with this number came in an entry, where there is a number. There is room for it.
+/// Notes that the datagram with this number, if there is one, came in an entry. The caller has made room.
 fn note(arrivals: &mut Vec<Arrival>, number: Option<usize>, index: usize, entry: &Entry)
     requires { vec_len arrivals.old < vec_capacity arrivals.old }
     ensures { arrivals.new.items ≡ arrivals.old.items ++ came number (index, entry.now) }

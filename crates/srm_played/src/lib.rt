@@ -1,15 +1,15 @@
-//! Scripts that were played, and their pictures.
+//! Plays scripts, and makes their pictures.
 //!
 //! ```
 //! let played = play(alloc, read_script(alloc, text)?)?;
 //! write_svg(alloc, &mut out, &played.subject(), &played.picture(alloc)?)?;
 //! ```
 //!
-//! [`play`] plays a script to its end and keeps which datagram came in which entry, so that `srm_picture` can draw it. [`run_picture`] is the
-//! whole of `srm picture`, over any streams.
+//! [`play`] plays a script to its end and keeps which datagram came in which entry, so that `srm_picture` can draw it. [`run_picture`] is
+//! the whole of `srm picture`, over any streams.
 //!
-//! **What is refused.** What `srm_script` refuses of a script, and one of more than [`MOST_EVENTS`] events. [`PictureFault`] has the text and the
-//! status of each.
+//! **Errors.** Those of `srm_script`, and a script of more than [`MOST_EVENTS`] events. [`PictureFault`] has the text and the status of
+//! each.
 #![tactic(auto)]
 
 mod fault;

@@ -1,4 +1,4 @@
 //! The limits.
 
-/// Events of a script that is drawn, at most.
+/// The most events that a script may have to be drawn.
 pub const MOST_EVENTS: usize = 2_000;

@@ -1,4 +1,4 @@
-//! Scripts that were played.
+//! Playing scripts.
 
 ghost use Rattle.std.specs.Prelude.{◌≡◌, ◌<◌, ◌↔◌, Err, length, All, IfOk};
 ghost use Rattle.srm_world.specs.Traces.{IsRoster, started};
@@ -17,7 +17,7 @@ use srm_world::{Event, World};
 use std::alloc::{AllocError, Global};
 use std::marker::Model;
 
-/// A world that played a script to its end. Contracts see what happened, and which datagrams came in which entries.
+/// A world that has played a script to its end. Contracts see what happened, and which datagrams came in which entries.
 #[derive(Drop)]
 pub struct Played {
     world: World<Listed>,
@@ -37,7 +37,9 @@ impl Model for Played {
     ghost invariant = { IsPlayed };
 }
 
-/// Plays a script to its end. Refused is a script of more than [`MOST_EVENTS`] events, before any is played, and want of memory.
+/// Plays a script to its end.
+///
+/// Fails with [`PictureFault::TooManyEvents`] if it has more than [`MOST_EVENTS`] events, before it plays any, and if out of memory.
 pub fn play(alloc: Global, script: Script) -> Result<Played, PictureFault>
     requires roster { IsRoster (started script.configs.items) }
     requires words { length script.words.items ≡ length script.configs.items }
@@ -67,7 +69,7 @@ impl Played {
     ghost use Rattle.srm_picture.specs.Pictures.{Depicts};
     ghost use Rattle.srm_played.specs.Plays.{Plays, PlaysOne, unplayed};
 
-    /// The picture of what happened. Only want of memory refuses it.
+    /// Makes the picture of what happened. Fails only if out of memory.
     pub fn picture(&self, alloc: Global) -> Result<Picture, AllocError>
         ensures draws { IfOk result (Depicts self.now.trace.entries self.now.arrivals) }
         ensures heard { AreArrivals self.now.trace.entries self.now.arrivals }
@@ -79,7 +81,8 @@ impl Played {
         )
     }
 
-    /// What is drawn beside the shapes of its picture. It takes no memory.
+    /// Returns what a drawing needs besides the shapes of the picture: the number of members, the entries and their lines. Takes no
+    /// memory.
     pub fn subject(&self) -> Subject<'_>
         ensures members { result.members ≡ length self.now.trace.starts }
         ensures entries { result.entries.now ≡ self.now.trace.entries }
@@ -91,14 +94,14 @@ impl Played {
         }
     }
 
-    /// How many members there are, as the settings of each say.
+    /// How many members there are, by the settings of the first.
     fn members(&self) -> u8
         ensures { result ≡ length self.now.trace.starts }
     {
         self.world.trace().starts()[0].config.members()
     }
 
-    /// A world in which nothing happened yet.
+    /// Makes a world that has played nothing. Fails only if out of memory.
     fn new(alloc: Global, configs: Vec<Config>, words: Vec<Listed>) -> Result<Played, AllocError>
         requires roster { IsRoster (started configs.items) }
         requires words { length words.items ≡ length configs.items }
@@ -111,7 +114,7 @@ impl Played {
         })
     }
 
-    /// Plays events in order. Refused is [`ScriptFault::Memory`] alone.
+    /// Plays events in order. Fails only if out of memory.
     #[tactic(auto, using(crate::proofs::Playing::reaches_none, crate::proofs::Playing::reaches_more, crate::proofs::Playing::reaches_all))]
     fn run(&mut self, alloc: Global, events: Vec<Event>) -> Result<(), ScriptFault>
         requires { All IsTimely events.items }
@@ -124,7 +127,7 @@ impl Played {
         Ok(())
     }
 
-    /// Plays an event, and keeps the lines of what it did.
+    /// Plays an event, and keeps the lines of its entry.
     fn apply(
         &mut self,
         alloc: Global,

@@ -1,4 +1,4 @@
-//! The whole of `srm picture`.
+//! Running `srm picture`.
 
 ghost use Rattle.srm_played.specs.Statuses.{IsStatus};
 
@@ -9,11 +9,11 @@ use srm_script::{ScriptFault, read_input, read_script};
 use std::alloc::Global;
 use std::io::{BufWriter, Read, Write};
 
-/// Reads a script to its end, plays it, and writes its picture as SVG. A fault goes to `err`; nothing is written where the script has a bad
-/// line or too many events.
+/// Reads a script from `reader`, plays it, and writes its picture as SVG to `out` and a fault to `err`. If the script has a bad line or
+/// too many events, it writes nothing to `out`.
 ///
-/// Answers the program's status: 0; 1 where the input can't be read, has more than 1,000,000 bytes, a bad line or more than 2,000 events, or
-/// the output can't be written; 4 for want of memory.
+/// Returns the program's status: 0 if all went well; 1 if the input can't be read, has more than 1,000,000 bytes, a bad line or more than
+/// 2,000 events, or the output can't be written; 4 if out of memory.
 pub fn run_picture<I: Read, O: Write, E: Write>(
     alloc: Global,
     reader: &mut I,

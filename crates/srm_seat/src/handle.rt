@@ -16,8 +16,8 @@ use std::ptr::null_mut;
 
 /// Memory of C's that owns the box of a seat, or nothing. All zeroes is an empty handle. Contracts see what it holds.
 ///
-/// C declares it as a pointer and a `bool`: the allocator takes no bytes. It may move a handle and hand it to another thread, but not copy it, and one call
-/// of it runs at a time.
+/// C declares it as a pointer and a `bool`, since the allocator takes no bytes. C may move a handle and pass it to another thread, but must
+/// not copy it, and makes one call of it at a time.
 #[repr(C)]
 pub struct Handle {
     at: *mut u8,
@@ -31,7 +31,7 @@ impl Model for Handle {
 }
 
 impl Handle {
-    /// Takes the seat out, if there is one, and leaves the handle empty.
+    /// Takes the seat out and returns it; `None` if there is none. The handle is empty then. Takes no memory.
     pub fn take(&mut self, alloc: Global) -> Option<Box<Seat>>
         ensures taken { MatchOption result (self.old.value ≡ None) (λ seat. self.old.value ≡ Some seat.value) }
         ensures left { self.new.value ≡ None }
@@ -42,7 +42,7 @@ impl Handle {
         }
     }
 
-    /// Puts a seat into the handle. What it held is let go.
+    /// Puts a seat into the handle, and drops the seat that it held. Takes no memory.
     pub fn put(&mut self, seat: Box<Seat>)
         ensures { self.new.value ≡ Some seat.value }
     {

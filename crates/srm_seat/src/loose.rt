@@ -6,7 +6,7 @@ ghost use Rattle.std.specs.Box.Ownership.{box_owns};
 use std::alloc::Allocator;
 use std::marker::Model;
 
-/// What is left of a box whose pointer was taken: it owns what the box did, and is made a box again.
+/// The pointer and the allocator of a box. It owns what the box did, and becomes a box again.
 pub(crate) struct Loose<T, A: Allocator> {
     pub(crate) at: *mut T,
     pub(crate) alloc: A,

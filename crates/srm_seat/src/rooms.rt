@@ -3,7 +3,7 @@
 ghost use Rattle.std.specs.Prelude.{◌≡◌, ◌≤◌, ◌++◌, length, drop};
 ghost use Rattle.srm_seat.specs.Calls.{laid_over};
 
-/// Copies bytes to the front of a room if they fit; else it writes nothing.
+/// Copies bytes to the front of a room if they fit, and else writes nothing. Takes no memory.
 pub fn lay_over(bytes: &[u8], room: &mut [u8])
     ensures { room.new ≡ laid_over bytes.now room.old }
 {

@@ -17,10 +17,11 @@ use std::alloc::{AllocError, Global};
 use std::collections::VecDeque;
 use std::marker::Model;
 
-/// One member's agent, whose waits go by a seed, with what its last tick left to be taken: the names that were asked for and repaired, and the
-/// datagrams to send. Contracts see the agent and these lists.
+/// One member's agent, whose random numbers come from a seed, with what its last tick left to be taken: the names that it requested and
+/// repaired, and the datagrams to send. Contracts see the agent and these lists.
 ///
-/// Each call is that of [`Agent`], with the same faults in the same order, but for [`draw`](Seat::draw). A refused call leaves all as it was.
+/// Each call has the faults of the agent's call, in the same order, but for [`draw`](Seat::draw). Moments are microseconds, at most 2^48.
+/// After an error nothing has changed.
 #[derive(Drop)]
 pub struct Seat {
     alloc: Global,
@@ -38,32 +39,34 @@ impl Model for Seat {
     ghost view = { λ s. record { agent = s.agent; requests = s.requests.items; repairs = s.repairs.items; datagrams = s.datagrams.items } };
 }
 
-/// How much a tick left to be taken, and whether the member takes part after it.
+/// What a tick left to be taken, and whether the member takes part after it.
 #[derive(Clone, Copy, Debug, PartialEq, Eq)]
 pub struct TickCounts {
-    /// Names that were asked for.
+    /// How many names it requested.
     pub requests: usize,
-    /// Names that were repaired.
+    /// How many names it repaired.
     pub repairs: usize,
-    /// Datagrams to send.
+    /// How many datagrams are to be sent.
     pub datagrams: usize,
     pub state: AgentState,
 }
 
-/// What became of a datagram that was to be taken.
+/// What became of the next datagram.
 #[derive(Clone, Copy, Debug, PartialEq, Eq)]
 pub enum Handover {
-    /// There is none.
+    /// There was none.
     Nothing,
-    /// The room is too short. It takes so many bytes.
+    /// It has so many bytes, which don't fit the room. It stays the next.
     Short(usize),
-    /// So many bytes stand at the front of the room.
+    /// It has so many bytes, which stand at the front of the room.
     Copied(usize),
 }
 
 impl Seat {
-    /// An agent with these settings that was made at a moment, in microseconds, and did nothing yet. Its waits are chosen by the random numbers of
-    /// the seed. Only want of memory refuses it.
+    /// Makes an agent with these settings at a moment. It chooses its waits by the random numbers of the seed, which is any number. Nothing is
+    /// left to be taken.
+    ///
+    /// Fails only if out of memory.
     pub fn new(alloc: Global, config: Config, seed: u64, now: u64) -> Result<Seat, AllocError>
         requires { now ≤ LATEST_MOMENT }
         ensures { IfOk result (IsNewSeat config now seed) }
@@ -77,7 +80,8 @@ impl Seat {
         })
     }
 
-    /// [`Agent::draw`] of bytes, which are copied first. So [`AgentFault::Memory`] may come in place of any other fault.
+    /// Draws a copy of some bytes on a page, as [`Agent::draw`] does. The copy comes first, so [`AgentFault::Memory`] may come in place of any
+    /// other fault.
     pub fn draw(&mut self, page: Page, body: &[u8], now: u64) -> Result<Name, AgentFault>
         requires { now ≤ LATEST_MOMENT }
         ensures { Draws now page body.now self.old self.new result }
@@ -86,7 +90,7 @@ impl Seat {
         self.agent.draw(page, body, now)
     }
 
-    /// [`Agent::show`].
+    /// Shows a page, as [`Agent::show`] does.
     pub fn show(&mut self, page: Page, now: u64) -> Result<(), AgentFault>
         requires { now ≤ LATEST_MOMENT }
         ensures { Shows now page self.old self.new result }
@@ -94,7 +98,7 @@ impl Seat {
         self.agent.show(page, now)
     }
 
-    /// [`Agent::leave`].
+    /// Begins to leave, as [`Agent::leave`] does.
     pub fn leave(&mut self, now: u64) -> Result<(), AgentFault>
         requires { now ≤ LATEST_MOMENT }
         ensures { Leaves now self.old self.new result }
@@ -102,7 +106,7 @@ impl Seat {
         self.agent.leave(now)
     }
 
-    /// [`Agent::hear`].
+    /// Hears bytes that came, as [`Agent::hear`] does.
     pub fn hear(&mut self, bytes: &[u8], now: u64) -> Result<Heard, AgentFault>
         requires { now ≤ LATEST_MOMENT }
         ensures { HearsBytes now bytes.now self.old self.new result }
@@ -110,8 +114,8 @@ impl Seat {
         self.agent.hear(bytes, now)
     }
 
-    /// [`Agent::tick`]. What an earlier tick left and wasn't taken is dropped, as if it were lost on its way; where this tick is refused, it
-    /// stays.
+    /// Does what is due, as [`Agent::tick`] does, and returns how much that left to be taken. What an earlier tick left and nobody took is
+    /// dropped, as if it were lost on its way; after an error it stays.
     pub fn tick(&mut self, now: u64) -> Result<TickCounts, AgentFault>
         requires { now ≤ LATEST_MOMENT }
         ensures { Ticks now self.old self.new result }
@@ -124,22 +128,22 @@ impl Seat {
         Ok(counts)
     }
 
-    /// Takes the next name that the last tick asked for, in order; none where all were taken.
+    /// Takes the next name that the last tick requested, in order; `None` if there is no more. Takes no memory.
     pub fn next_request(&mut self) -> Option<Name>
         ensures { TakesRequest self.old self.new result }
     {
         self.requests.pop_front()
     }
 
-    /// Takes the next name that the last tick repaired, in order; none where all were taken.
+    /// Takes the next name that the last tick repaired, in order; `None` if there is no more. Takes no memory.
     pub fn next_repair(&mut self) -> Option<Name>
         ensures { TakesRepair self.old self.new result }
     {
         self.repairs.pop_front()
     }
 
-    /// Takes the next datagram that the last tick left to be sent, if the room is long enough for it, and copies it to the room's front. In a room that
-    /// is too short nothing is written, and the datagram stays the next.
+    /// Takes the next datagram that the last tick left to be sent, and copies it to the front of the room. If it doesn't fit, writes nothing, and
+    /// it stays the next. Takes no memory.
     pub fn next_datagram(&mut self, room: &mut [u8]) -> Handover
         ensures { TakesDatagram self.old self.new room.old room.new result }
     {
@@ -156,7 +160,7 @@ impl Seat {
         Handover::Copied(length)
     }
 
-    /// [`Agent::give`].
+    /// Takes the next message of a page slot, 0 to 7, as [`Agent::give`] does.
     pub fn give(&mut self, slot: u8) -> Result<Option<PageMsg>, AgentFault>
         requires { slot < PAGES }
         ensures { Gives slot self.old self.new result }
@@ -164,28 +168,28 @@ impl Seat {
         self.agent.give(slot)
     }
 
-    /// [`Agent::next_due`].
+    /// Returns the next moment at which a tick does something, as [`Agent::next_due`] does.
     pub fn next_due(&self) -> Option<u64>
         ensures { NextDue self.now.agent result }
     {
         self.agent.next_due()
     }
 
-    /// [`Agent::new_page`].
+    /// Returns the page of its own that the member would begin next, as [`Agent::new_page`] does.
     pub fn new_page(&self) -> Option<Page>
         ensures { IsPageToCome self.now.agent result }
     {
         self.agent.new_page()
     }
 
-    /// [`Agent::state`].
+    /// Returns whether the member takes part, as [`Agent::state`] does.
     pub fn state(&self) -> AgentState
         ensures { IsState self.now.agent result }
     {
         self.agent.state()
     }
 
-    /// [`Agent::distance`].
+    /// Returns the one-way distance to a member in microseconds, as [`Agent::distance`] does.
     pub fn distance(&self, member: Member) -> u64
         ensures value { IsDistance member self.now.agent result }
         ensures longest { result ≤ LONGEST_DISTANCE }
@@ -193,14 +197,14 @@ impl Seat {
         self.agent.distance(member)
     }
 
-    /// [`Agent::admits_draw`].
+    /// Whether a body of so many bytes, drawn at this moment, would wait for no other, as [`Agent::admits_draw`] says.
     pub fn admits_draw(&self, length: usize, now: u64) -> bool
         ensures { DrawAdmitted length now self.now.agent result }
     {
         self.agent.admits_draw(length, now)
     }
 
-    /// [`Agent::admits_draw_from`].
+    /// Returns from which moment on it would wait for no other, as [`Agent::admits_draw_from`] does.
     pub fn admits_draw_from(&self, length: usize) -> Option<u64>
         ensures { DrawAdmittedFrom length self.now.agent result }
     {

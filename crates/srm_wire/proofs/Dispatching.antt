@@ -1,4 +1,4 @@
--- One send after another, as the wire's own relation has them.
+-- Sends one after another, each as the wire's relation says.
 use Rattle.std.proofs.Common.{ℕ, ◌+◌, ◌||◌, Bool, false, List, [], ◌∷◌, ◌++◌, refl, ap, sym, ◌∙◌, subst}
 use Rattle.std.proofs.Math.Bool.{or-false, or_assoc}
 use Rattle.srm_wire.specs.declared.sent.Sent.{Sent}

@@ -15,7 +15,7 @@ use Rattle.srm_wire.specs.Fates.{fate_of, is_behind, arrivals_at, coming}
 abbrev late : List Fate → ℕ → ℕ → Bool
 late fates sent number = is_behind (fate_of fates number) number sent
 
--- the late ones of the first copies, so many, stand behind what came before
+-- the late ones of so many first copies come behind what came before
 pub record Collects (fates : List Fate) (sent done : ℕ) (old new : List ℕ) : Type 0 where
   pub is : new ≡ old ++ filter (late fates sent) (count_up 0 done)
 

@@ -45,7 +45,7 @@ counts_on false true x y z h k = (omega arith, rose_before x y z h.0 k.1)
     rose_before x y z le (inr full) = inr full
 counts_on false false x y z h k = (omega arith, tt)
 
--- some of all these, where some of the first and some of the others are
+-- some of all these: some of the first, and then some of the others
 some_on : {A : Type 0} (xs all ys more : List A) → AreSomeOf xs all → AreSomeOf ys more → AreSomeOf (xs ++ ys) (all ++ more)
 some_on [] [] ys more h k = k
 some_on {A} [] (a ∷ all) ys more h k = skip ys (all ++ more) (some_on [] all ys more tt k)
@@ -97,7 +97,7 @@ counts_below (Err e) old new own h = (omega (arith, h.0), rose old new own h.1)
         which (inr full) = inr (omega arith)
     rose old new own (inr full) = inr (omega arith)
 
--- a failure of its own
+-- a failure of the wire itself
 pub counts_own : (below own more : ℕ) → more ≡ min (own + 1) (2 ^ 64 - 1) → (counted_with below own ≤ counted_with below more) × RoseOrFull (counted_with below own) (counted_with below more)
 counts_own below own more is = (omega arith, which (cases_lt (below + own) (2 ^ 64 - 1)))
   where

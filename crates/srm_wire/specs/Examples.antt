@@ -22,7 +22,7 @@ a_late_one_comes = refl
 pub all_that_come : coming six 7 ≡ 0 ∷ 2 ∷ 2 ∷ 3 ∷ 6 ∷ 5 ∷ []
 all_that_come = refl
 
--- where fewer follow a late one is lost, and two that are late by as much come in the order in which they were sent
+-- a late one is lost if fewer follow, and two that are equally late come in the order in which they were sent
 pub one_is_lost : coming (Late 2 ∷ Late 1 ∷ Late 1 ∷ []) 3 ≡ 0 ∷ 1 ∷ []
 one_is_lost = refl
 

@@ -6,17 +6,21 @@ ghost use Rattle.srm_wire.specs.Fates.{fate_of as fate_at, at_once as now_comes,
 
 use std::alloc::{AllocError, Global};
 
-/// What becomes of a copy that a member sends.
+/// What becomes of one copy that a member sends in a network in memory.
 #[derive(Clone, Copy, Debug, PartialEq, Eq)]
 pub enum Fate {
+    /// It comes at once.
     Pass,
+    /// It is lost.
     Drop,
+    /// It comes twice at once.
     Twice,
-    /// It comes behind the next copies of its sender, so many, and is lost where fewer follow. None is behind 0 copies: it passes.
+    /// It comes behind so many of its sender's next copies, and is lost if fewer follow. Behind 0 copies it comes at once.
     Late(u32),
 }
 
-/// The numbers of the copies that come as the copy with this number is sent, in order. It looks at the whole list of fates.
+/// Returns the numbers of the copies that come when the copy of number `sent` is sent, in order. Costs a pass over the list of fates; fails
+/// only if out of memory.
 pub(crate) fn arrivals_at(
     alloc: Global,
     fates: &[Fate],
@@ -28,14 +32,14 @@ pub(crate) fn arrivals_at(
     with_late(fates, sent, numbers)
 }
 
-// The fate of the copy with this number, which passes where the list is spent.
+// Returns the fate of a copy. It passes if the list has no fate for it.
 fn fate_of(fates: &[Fate], number: usize) -> Fate
     ensures { result ≡ fate_at fates.now number }
 {
     fates.get(number).copied().unwrap_or(Fate::Pass)
 }
 
-// How a copy comes as it is sent.
+// Returns how a copy comes when it is sent.
 fn at_once(alloc: Global, fate: Fate, number: usize) -> Result<Vec<usize>, AllocError>
     ensures { IfOk result (λ numbers. numbers.items ≡ now_comes fate number) }
 {
@@ -52,7 +56,7 @@ fn at_once(alloc: Global, fate: Fate, number: usize) -> Result<Vec<usize>, Alloc
 }
 
 #[tactic(auto, using(crate::proofs::Fating::collects_none, crate::proofs::Fating::collects_more, crate::proofs::Fating::collects_all))]
-// Behind these the late copies that this one was the last before.
+// Adds the late copies that have now waited for enough others.
 fn with_late(fates: &[Fate], sent: usize, numbers: Vec<usize>) -> Result<Vec<usize>, AllocError>
     ensures { IfOk result (λ all. all.items ≡ numbers.items ++ filter (λ number. stands_behind (fate_at fates.now number) number sent) (count_up 0 sent)) }
 {
@@ -64,7 +68,7 @@ fn with_late(fates: &[Fate], sent: usize, numbers: Vec<usize>) -> Result<Vec<usi
     Ok(numbers)
 }
 
-// Behind these one more, if it comes.
+// Adds a number, if its copy comes.
 fn with_number(numbers: Vec<usize>, number: usize, comes: bool) -> Result<Vec<usize>, AllocError>
     ensures { IfOk result (λ all. all.items ≡ numbers.items ++ (if comes then number ∷ [] else [])) }
 {
@@ -75,7 +79,7 @@ fn with_number(numbers: Vec<usize>, number: usize, comes: bool) -> Result<Vec<us
     Ok(numbers)
 }
 
-// Whether a copy with this fate and number is behind those up to this one, and no further.
+// Whether a late copy comes exactly behind the copy `last`.
 fn is_behind(fate: Fate, number: usize, last: usize) -> bool
     ensures { result ≡ stands_behind fate number last }
 {

@@ -1,4 +1,4 @@
-//! A wire that fails once, for tests.
+//! A wire that fails one call, for tests.
 
 ghost use Rattle.std.specs.Prelude.{◌≡◌, ◌-◌, ◌==◌};
 ghost use Rattle.srm_wire.specs.Wires.{counted_with};
@@ -7,8 +7,9 @@ use crate::wire::{Wire, WireFault, count_failure};
 use srm_names::Member;
 use std::marker::Model;
 
-/// A wire whose k-th `send` or `receive` fails once, k from 1, and raises its failures by one; every other call is that of the wire below. It
-/// tells what the wire below it tells.
+/// A wire over another one that fails its k-th `send` or `receive`, k from 1, for tests.
+///
+/// The call that fails isn't passed on, and is counted. Every other call is that of the wire below, and the wire tells what that one tells.
 #[derive(Drop)]
 pub struct Flaky<X: Wire + Drop> {
     wire: X,
@@ -26,7 +27,7 @@ impl<X: Wire + Drop> Model for Flaky<X> {
 }
 
 impl<X: Wire + Drop> Flaky<X> {
-    /// A wire over this one, whose k-th call fails; none does where k is 0.
+    /// Makes a wire that fails the k-th call, or none if `k` is 0. Takes no memory.
     pub fn new(wire: X, k: u64) -> Flaky<X>
         ensures { result ≡ record { wire = wire; remaining = k; own = 0 } }
     {
@@ -38,7 +39,7 @@ impl<X: Wire + Drop> Flaky<X> {
     }
 }
 
-// Counts a call. Whether it is the one that fails.
+// Counts a call down, and returns whether it is the one that fails.
 fn fails(remaining: &mut u64) -> bool
     ensures next { result ≡ (remaining.old == 1) }
     ensures remaining { remaining.new ≡ remaining.old - 1 }

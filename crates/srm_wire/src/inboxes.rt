@@ -8,14 +8,14 @@ use std::sync::{Arc, Mutex};
 /// The inboxes that the wires of a network share.
 pub(crate) type Network = Arc<Mutex<Inboxes>, Global>;
 
-/// What is under way to each member of a network, by number.
+/// The datagrams under way to each member of a network, by its number.
 #[derive(Drop)]
 pub struct Inboxes {
     all: Vec<VecDeque<Vec<u8>>>,
 }
 
 impl Inboxes {
-    /// An empty inbox for each of so many members.
+    /// Makes an empty inbox for each of so many members. Fails only if out of memory.
     pub(crate) fn new(alloc: Global, members: u8) -> Result<Inboxes, AllocError> {
         let mut all = Vec::new(alloc);
         for _ in 0..members {
@@ -24,8 +24,9 @@ impl Inboxes {
         Ok(Inboxes { all })
     }
 
-    /// Puts copies into the inboxes of those that they go to, in order; one to a member that isn't there is lost. Where memory is refused
-    /// none is put.
+    /// Puts copies into their receivers' inboxes, in order. A copy to a member without an inbox is lost.
+    ///
+    /// Fails only if out of memory, and then puts none.
     pub(crate) fn put(&mut self, copies: Vec<Sent>) -> Result<(), AllocError> {
         for copy in copies.as_slice() {
             if let Some(inbox) = self.all.get_mut(copy.to.index()) {
@@ -41,7 +42,7 @@ impl Inboxes {
         Ok(())
     }
 
-    /// Takes the oldest datagram of a member.
+    /// Takes the oldest datagram to a member, if there is one.
     pub(crate) fn take(&mut self, member: usize) -> Option<Vec<u8>> {
         self.all.get_mut(member)?.pop_front()
     }

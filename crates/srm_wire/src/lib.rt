@@ -1,7 +1,16 @@
-//! Wires: what carries datagrams between the members of a session, and the clock beside them.
+//! Wires, which carry datagrams between the members of a session, and the clock of a node.
 //!
-//! A node stands on the traits [`Wire`] and [`Clock`]. Here are also a network in memory ([`hub`] of [`MemWire`]s) and a wire that fails once
-//! ([`Flaky`]), both for tests; they tell what they answered and took.
+//! A node works with any [`Wire`] and [`Clock`]. For tests there are a network in memory ([`hub`], of [`MemWire`]s) and a wire that fails one
+//! call ([`Flaky`]). Contracts see what these returned and took.
+//!
+//! ```
+//! let failed = send_to_others(&mut wire, me, 3, &bytes); // a copy to each of the two others
+//! while let Ok(Some(count)) = wire.receive(&mut buffer) { /* read buffer[..count] */ }
+//! wire.pause(1_000); // until a datagram may be there, or 1 ms has passed
+//! ```
+//!
+//! **Errors.** A failed `send` or `receive` returns [`WireFault`], and the wire counts it. A datagram that is lost isn't an error. [`hub`]
+//! fails only if out of memory.
 #![tactic(auto)]
 
 mod clock;

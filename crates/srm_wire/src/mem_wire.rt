@@ -12,8 +12,12 @@ use std::alloc::{AllocError, Global};
 use std::marker::Model;
 use std::sync::Wait;
 
-/// A member's wire in a network in memory. It tells what it answered and took. What comes of the copies that it sends stands in the inboxes
-/// at once, by their fates. Only a growth that is refused is a failure, and then nothing else changed.
+/// A member's wire in a network in memory, for tests.
+///
+/// It tells what its calls returned and took, and keeps all of that, so it grows with each call. Once `send` returns, what comes of the copies
+/// so far, by their fates, is in the inboxes. A longer datagram than the buffer is cut.
+///
+/// A call fails only if out of memory, which is counted; nothing else has changed then.
 #[derive(Drop)]
 pub struct MemWire<R: Wait + Drop> {
     rt: R,
@@ -101,7 +105,7 @@ impl<R: Wait + Drop> Wire for MemWire<R> {
         Ok(Some(count))
     }
 
-    /// Nothing is waited for.
+    /// Returns at once: a test doesn't wait.
     fn pause(&mut self, _micros: u64) {}
 
     fn failures(&self) -> u64 {
@@ -110,7 +114,7 @@ impl<R: Wait + Drop> Wire for MemWire<R> {
 }
 
 impl<R: Wait + Drop> MemWire<R> {
-    // A new wire, whose copies to come have these fates.
+    // Makes a new wire, whose copies get these fates in order.
     pub(crate) fn new(
         rt: R,
         alloc: Global,
@@ -134,7 +138,7 @@ impl<R: Wait + Drop> MemWire<R> {
     }
 }
 
-// Copies of those with these numbers, of what was sent before and then the last.
+// Copies what these numbers name, of all that was sent before and then the last.
 fn copies_of(
     alloc: Global,
     went: &[Sent],
@@ -151,7 +155,7 @@ fn copies_of(
     Ok(copies)
 }
 
-// Fills the buffer from its front. How many bytes, and which.
+// Fills the buffer from its front, and returns how many bytes these are, and which. A longer datagram is cut.
 fn fill(buffer: &mut [u8], bytes: Vec<u8>) -> (usize, Vec<u8>)
     ensures within { result.0 ≤ length buffer.new }
     ensures same { result.1.items ≡ take result.0 buffer.new }

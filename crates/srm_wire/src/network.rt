@@ -1,4 +1,4 @@
-//! The wires of a network in memory.
+//! A network in memory, for tests.
 
 ghost use Rattle.std.specs.Prelude.{◌≡◌, map, IfOk};
 ghost use Rattle.srm_wire.specs.Networks.{AreNewWires, NextWire, new_wire_of};
@@ -11,8 +11,10 @@ use std::collections::VecDeque;
 use std::sync::{Arc, Mutex, Wait};
 
 #[tactic(auto, using(crate::proofs::Wiring::wiring_none, crate::proofs::Wiring::wiring_more))]
-/// The wires of so many members in one network in memory, by number. The k-th copy that a member sends has the k-th fate of its list, and
-/// passes where there is none. Only want of memory refuses it.
+/// Makes a network in memory, and returns the wires of members 0 to `members - 1`, in order. The k-th list of fates is member k's: its n-th
+/// copy gets the n-th fate, and passes if there is none.
+///
+/// Fails only if out of memory.
 pub fn hub<R: Wait + Copy + Drop>(
     rt: R,
     alloc: Global,
@@ -30,7 +32,7 @@ pub fn hub<R: Wait + Copy + Drop>(
     Ok(wires)
 }
 
-// The wire of a member, whose copies have the first fates of those left, or pass.
+// Makes the wire of the next member, which gets the first list of fates that is left.
 fn next_wire<R: Wait + Drop>(
     rt: R,
     alloc: Global,

@@ -6,7 +6,7 @@ use std::alloc::{AllocError, Global};
 use std::process::Abort;
 use std::sync::Wait;
 
-/// The wires of members 0 and 1, where copies of member 0 have these fates.
+/// Makes the wires of members 0 and 1. Copies of member 0 get these fates.
 fn two_wires<R: Wait + Copy + Drop>(
     rt: R,
     alloc: Global,
@@ -26,7 +26,7 @@ fn send_each<X: Wire>(rt: &impl Abort, wire: &mut X, bytes: &[u8]) {
     }
 }
 
-/// The byte that comes next. None where nothing is there.
+/// Returns the byte that comes next; `None` if nothing is there.
 fn next<X: Wire>(rt: &impl Abort, wire: &mut X) -> Option<u8> {
     let mut buffer = [0; 4];
     let count = wire.receive(&mut buffer).expect(rt, "a wire")?;
@@ -34,7 +34,7 @@ fn next<X: Wire>(rt: &impl Abort, wire: &mut X) -> Option<u8> {
     Some(buffer[0])
 }
 
-/// These bytes come, and no other.
+/// Asserts that these bytes come, and no other.
 fn assert_come<X: Wire>(rt: &impl Abort, wire: &mut X, wanted: &[u8]) {
     for byte in wanted {
         assert_eq!(rt; next(rt, wire), Some(*byte));
@@ -42,7 +42,7 @@ fn assert_come<X: Wire>(rt: &impl Abort, wire: &mut X, wanted: &[u8]) {
     assert_eq!(rt; next(rt, wire), None);
 }
 
-/// Where member 0 sends these bytes one by one and their copies have these fates, these come.
+/// Asserts that the wanted bytes come if member 0 sends these bytes one by one and their copies have these fates.
 fn assert_fates<R: Wait + Abort + Copy + Drop>(
     rt: R,
     alloc: Global,

@@ -65,7 +65,7 @@ begun_world configs i starts ps sents es t h l roster unsent none is = subst (Ar
   lawful = lawful (begins starts []) (run_more starts [] ps (subst IsRoster (sym (h.starts_are ∙ ap started (take_all i configs l))) roster) (h.count ∙ sym h.begun) h.fit tt) tt;
 }))
 
--- the words of the members that have begun, and those still to come
+-- the generators of the members that have begun, and those still to come
 
 pub no_source_taken : {W : Type 0} (ps : List (ParticipantContent W)) (rest all : List W) → ps ≡ [] → rest ≡ all → words_of ps ++ rest ≡ all
 no_source_taken ps rest all none same = rw none same

@@ -61,7 +61,7 @@ last_after made past e right = at e.verdict refl ∙ sym (last_moment-snoc made 
     at Done q = clocked (takes_moment e.input) e.moment (last_moment made past) right
     at (Ignored cause) q = clocked (takes_moment e.input) e.moment (last_moment made past) right
 
--- a call that takes a moment moves no message of a slot
+-- a call with a moment moves no message of a slot
 ungiven : (input : Input) (j : ℕ) (m : Option PageMsg) → takes_moment input ≡ true → given_in j input m ≡ None
 ungiven (Gave slot) j m e = absurd (cc)
 ungiven (Took slot) j m e = refl
@@ -248,7 +248,7 @@ takes_on next_word slot p q message e is loses agent config last after = record 
         (h.agent.state ∙ sym h.state) (omega arith) refl (h.agent.pages ∙ sym (slots-same past e refl)) (same_progress past e p.agent.progress (λ j. refl) h.agent.progress) in
         adds c made past None p q e h (subst (λ a. AgentFits c made (past ++ e ∷ []) a) (sym agent) fits) config (h.last ∙ sym h.agent.last) last after (taken_lanes past e slot p.lanes q.lanes refl loses h.lanes)
 
--- a member whose call was refused for memory, with more room in a lane
+-- a member whose call ran out of memory, with more room in a lane
 pub stays_with : {W : Type 0} (slot : ℕ) (p q : ParticipantContent W) → AgentStays p.agent q.agent → Gains slot [] p.lanes q.lanes → q.config ≡ p.config → q.last ≡ p.last → q.state ≡ p.state → ParticipantStays p q
 stays_with slot p q same room config last after = record {
   words = same.words;

@@ -43,7 +43,7 @@ hears_more now bs bytes a b c heard h (inr (wrong, same)) = absurd (is_ok wrong)
     is_ok : {A B : Type 0} {x : A} {y : B} → Ok x ≡ Err y → ⊥
     is_ok e = cc
 
--- and the words go on
+-- and the generator goes on
 pub words_go_on : {W : Type 0} (next_word : W → ℕ × W) (a b c : RecorderView W) → b.journal.start ≡ a.journal.start → RecordsByWords next_word a b → RecordsByWords next_word b c → RecordsByWords next_word a c
 words_go_on next_word a b c same h k = record {
   added = h.added ++ k.added;

@@ -1,4 +1,5 @@
--- An honest run of two members that are at rest, after one drawop and a session message of each: the premises of the law of rest can be met.
+-- An honest run of two members that are at rest, after one drawop and a session message of each. So the premises of the law of rest can
+-- be met.
 use Rattle.std.proofs.Common.{◌≡◌, ℕ, Bool, true, false, ◌&&◌, List, [], ◌∷◌, ◌++◌, map, refl, ap, sym, ◌∙◌, subst, arith, lit<, lit≤}
 use Rattle.std.specs.Prelude.{Some, None, option_map, nat_lt, if◌then◌else◌}
 use Rattle.std.specs.List.{AllByRecursion}

@@ -66,7 +66,7 @@ fit_set starts ps es new m a p q all start at fits others k b x there_a there = 
         subst (λ (j : ℕ). ParticipantFits b.config b.made (of_member j new) x) (sym same) (subst (λ (s : Start). ParticipantFits s.config s.made (of_member m new) x) begun (subst (ParticipantFits a.config a.made (of_member m new)) is fits))
     which (inr differ) = subst (λ (ys : List Entry). ParticipantFits b.config b.made ys x) (sym (others k differ)) (all k b x there_a (sym (set_elsewhere ps m k q differ) ∙ there))
 
--- a member whose call was refused for memory
+-- a member whose call ran out of memory
 pub keeps_at : {W : Type 0} (ps : List (ParticipantContent W)) (sents : List Out) (i : ℕ) (d q : ParticipantContent W) → i < length ps → ParticipantStays (get_or ps i d) q → KeepsParticipants ps (slice_set ps i q) sents sents
 keeps_at ps sents i d q lt h = record {
   fits = λ starts es all. stays starts es all;
@@ -154,7 +154,7 @@ one_session : (t : Trace) (es : List Entry) (m : ℕ) (a : Start) → IsRunOf t.
 one_session t es m a run at n b there =
     by_place (λ (x : Start). a.config.session ≡ x.config.session) t.starts n b (by_place (λ (y : Start). AllByRecursion (λ (x : Start). y.config.session ≡ x.config.session) t.starts) t.starts m a run.roster.session at) there
 
--- its waits are by the words of the member at the place
+-- the generator of the member at the place chose its waits
 by_words : {W : Type 0} (next_word : W → ℕ × W) (ps : List (ParticipantContent W)) (sents : List Out) (t : Trace) (event : Event) (i : ℕ) (d q : ParticipantContent W) (input : Input) (e : Entry) → AreWorld ps sents t → i < length ps
     → GoesOn next_word (moment_in event) input (get_or ps i d) q e → Called ps t event i q e → AreByOwnWords next_word t.starts (words_of ps) (e ∷ []) (words_of (slice_set ps i q))
 by_words next_word ps sents t event i d q input e w lt goes c = plays_one next_word t.starts ps i d q e c.start lt c.at c.mine
@@ -333,7 +333,7 @@ pub appended_starts : {W : Type 0} (next_word : W → ℕ × W) (old new : List 
 appended_starts next_word old new sents more t now event true (e, all, is) = ap (λ (x : Trace). x.starts) is
 appended_starts next_word old new sents more t now event false (skips, is) = ap (λ (x : Trace). x.starts) is
 
--- what the words have come to after it
+-- the generators after it
 pub appended_words : {W : Type 0} (next_word : W → ℕ × W) (first old new items : List (ParticipantContent W)) (sents more : List Out) (t now : Trace) (event : Event) (applied : Bool) → old ≡ first → items ≡ new → AreWorld old sents t → Appends next_word old new sents more event t now applied
     → PlaysByWords next_word (record { trace = t; words = words_of first }) (record { trace = now; words = words_of items })
 appended_words next_word first old new items sents more t now event applied first_is same w h =

@@ -1,5 +1,5 @@
--- An honest run in which one member draws, sends and leaves, and the other hears it all, gives it and has it taken: the
--- premises of the law on takes can be met, and those of 'the whole' too.
+-- An honest run: one member draws, sends and leaves, the other hears it all, gives it and has it taken. So the premises of the law of
+-- takes can be met, and those of 'the whole' too.
 use Rattle.std.proofs.Common.{◌≡◌, ◌==◌, Bool, true, false, List, [], ◌∷◌, ◌++◌, map, refl, ap, sym, lit<, lit≤}
 use Rattle.std.specs.Prelude.{Option, Some, None, IfSome, if◌then◌else◌, option_map}
 use Rattle.std.specs.List.{AllByRecursion}

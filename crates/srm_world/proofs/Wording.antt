@@ -1,4 +1,4 @@
--- The words by which the waits of a run were chosen, over one more entry and over several steps.
+-- The random numbers that chose the waits of a run, over one more entry and over several steps.
 use Rattle.std.proofs.Common.{◌≡◌, ◌≢◌, ℕ, zero, suc, ◌<◌, get_or, List, [], ◌∷◌, ◌++◌, length, refl, ap, sym, ◌∙◌, subst, inl, inr, arith, append_assoc, eq-eqb}
 use Rattle.std.specs.Prelude.{◌⊎◌, Some, option_map, slice_get, slice_set, cond, Option}
 use Rattle.std.proofs.lemmas.Bool.{cases_eq, ne_eqb}
@@ -23,7 +23,7 @@ use Rattle.srm_world.specs.WaitWords.{RecorderView, WorldView, AreByWords, AreBy
 use Rattle.srm_world.specs.Worlds.{AreWorld, words_of}
 use Rattle.srm_world.proofs.Members.{of_member-append}
 
--- one source
+-- one generator
 
 by_one : {W : Type 0} (next_word : W → ℕ × W) (c : Config) (from to : W) (e : Entry) → AreChosen next_word (low_of c) (high_of c) from e.effects.arms to → AreByWords next_word c from (e ∷ []) to
 by_one next_word c from to e h = subst (λ xs. AreChosen next_word (low_of c) (high_of c) from xs to) (sym (append-nil e.effects.arms)) h
@@ -51,7 +51,7 @@ no_words_recorded next_word old new same = subst (RecordsByWords next_word old) 
 
 -- a world
 
--- the source of a member
+-- the generator of a member
 abbrev source : {W : Type 0} → ParticipantContent W → W
 source p = p.agent.words
 
@@ -61,7 +61,7 @@ plays_nothing next_word starts from to same = record {
   each = λ m a u v at_a at_u at_v. same_Some v u (sym at_v ∙ ap (λ ws. slice_get ws m) same ∙ at_u);
 }
 
--- the source of one member went on
+-- the generator of one member went on
 pub plays_one : {W : Type 0} (next_word : W → ℕ × W) (starts : List Start) (ps : List (ParticipantContent W)) (i : ℕ) (d q : ParticipantContent W) (e : Entry) (a : Start) → i < length ps → slice_get starts i ≡ Some a → e.member ≡ i
     → AreChosen next_word (low_of a.config) (high_of a.config) (get_or ps i d).agent.words e.effects.arms q.agent.words → AreByOwnWords next_word starts (words_of ps) (e ∷ []) (words_of (slice_set ps i q))
 plays_one {W = W} next_word starts ps i d q e a lt at mine drawn = record {
@@ -85,11 +85,11 @@ plays_one {W = W} next_word starts ps i d q e a lt at mine drawn = record {
         subst (λ es. AreByWords next_word b.config u es v) (sym none)
         (same_Some v u (sym at_v ∙ slice_get-map source (slice_set ps i q) m ∙ ap (option_map source) (set_elsewhere ps i m q differ) ∙ sym (slice_get-map source ps m) ∙ at_u))
 
--- each member has a source
+-- each member has a generator
 pub sources_counted : {W : Type 0} (ps : List (ParticipantContent W)) (sents : List Out) (t : Trace) → AreWorld ps sents t → length (words_of ps) ≡ length t.starts
 sources_counted ps sents t are = length-map ps source ∙ are.count
 
--- no source went on
+-- no generator went on
 pub sources_stay : {W : Type 0} (ps : List (ParticipantContent W)) (i : ℕ) (d q : ParticipantContent W) → q.agent.words ≡ (get_or ps i d).agent.words → words_of (slice_set ps i q) ≡ words_of ps
 sources_stay [] i d q e = refl
 sources_stay (p ∷ ps) zero d q e = ap (λ w. w ∷ words_of ps) e

@@ -35,7 +35,7 @@ abbrev pub IsSessionMessageOn : ℕ → Page → Datagram → Type 0
 IsSessionMessageOn m page (Session sender sent farewell shown rows echoes) = (sender ≡ m) × (farewell ≡ false) × (shown ≡ page)
 IsSessionMessageOn m page _ = ⊥
 
--- m heard a session message of k on the page, since whose sending k has come to know of nothing more there
+-- m heard a session message of k for the page, and since sending it k has come to know of nothing more there
 pub record HeardLast (es : List Entry) (m k : ℕ) (page : Page) : Type 0 where
   pub session_message : Datagram
   pub before : List Entry
@@ -87,11 +87,11 @@ GivesEach t = AllByRecursion (GivesByItself t.entries) t.starts
 abbrev pub KeepsRateByItself : List Entry → Start → Type 0
 KeepsRateByItself es a = KeepsRate a.config (of_member a.config.me es)
 
--- each member sends in the order and no faster than its rate lets it, and keeps nothing back that its tokens would pay for
+-- each member sends in the order and no faster than its rate allows, and keeps nothing back that its tokens would pay for
 abbrev pub KeepsRateEach : Trace → Type 0
 KeepsRateEach t = AllByRecursion (KeepsRateByItself t.entries) t.starts
 
--- the trace is an honest run, and all that holds of one
+-- the trace is an honest run, and has all that holds of one
 pub record IsLawful (t : Trace) : Type 0 where
   pub run : IsRun t
   pub honest : IsHonest t.entries
@@ -105,13 +105,13 @@ pub record IsLawful (t : Trace) : Type 0 where
 abbrev pub LawfulLaw : Type 0
 LawfulLaw = (t : Trace) → IsRun t → IsHonest t.entries → IsLawful t
 
--- none of the entries is of a call for which memory ran out
+-- none of the entries is of a call that failed for memory
 abbrev pub NoneForMemory : List Entry → Type 0
 NoneForMemory es = AllByRecursion (λ (e : Entry). e.verdict ≢ Refused Memory) es
 
--- The journal is a run of its member, whatever came to it: timers, bucket, session messages and verdicts are right. And so it
--- responds in time, what it gives is a page feed of what is released, and what it sends keeps to its rate. No entry is a take: a page
--- worker takes, and not the agent. Nor is one of a call for which memory ran out.
+-- The journal is a run of its member, whatever came to it: timers, bucket, session messages and verdicts are right. So the member
+-- responds in time, gives a page feed of what is released, and keeps its rate. No entry is a take, since a page worker takes and not the
+-- agent. No entry is of a call that failed for memory.
 pub record IsLawfulJournal (j : Journal) : Type 0 where
   pub run : IsMemberRun j.start.config j.start.made j.entries
   pub responds : RespondsInTime j.start.config j.entries

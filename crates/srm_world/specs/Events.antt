@@ -30,7 +30,7 @@ moment_in (Leave member now) = Some now
 moment_in (Give member slot) = None
 moment_in (Take member slot) = None
 
--- the event's moment is one that members can count
+-- the event's moment, if it has one, is at most 2^48
 abbrev pub IsTimely : Event → Type 0
 IsTimely event = IfSome (moment_in event) (λ now. now ≤ LATEST_MOMENT)
 
@@ -42,7 +42,7 @@ input_heard false g = Heard g
 abbrev pub in_slot : ℕ → Input → Option Input
 in_slot slot input = if nat_lt slot PAGES then Some input else None
 
--- what the event asks of its member, unless there is no such datagram or slot
+-- the input that the event gives its member; None if there is no such datagram or slot
 abbrev pub input_of : List Entry → Event → Option Input
 input_of es (Draw member now page body) = Some (Drew page body)
 input_of es (Deliver member now index) = option_map (input_heard (is_gone (state (of_member member es)))) (slice_get (sent es) index)
@@ -52,7 +52,7 @@ input_of es (Leave member now) = Some AskedLeave
 input_of es (Give member slot) = in_slot slot (Gave slot)
 input_of es (Take member slot) = in_slot slot (Took slot)
 
--- what the event asks of a member of the session, unless it is skipped
+-- the input that the event gives a member of the session; None if the event is skipped
 abbrev pub required_input : List Start → List Entry → Event → Option Input
 required_input starts es event = if nat_lt (member_of event) (length starts) then input_of es event else None
 
@@ -64,13 +64,13 @@ made_at starts m = unwrap_or (option_map (λ (a : Start). a.made) (slice_get sta
 abbrev pub last_of_member : List Start → List Entry → ℕ → ℕ
 last_of_member starts es m = last_moment (made_at starts m) (of_member m es)
 
--- the entry is of this event, which asks this
+-- the entry is of this event, with this input
 pub record IsEntryOf (starts : List Start) (es : List Entry) (event : Event) (input : Input) (e : Entry) : Type 0 where
   pub member : e.member ≡ member_of event
   pub input_is : e.input ≡ input
   pub moment : e.moment ≡ moment_that_counts (moment_in event) (last_of_member starts es (member_of event))
 
--- the new entries are the old ones and one of the event, or just the old ones where it is skipped
+-- the new entries are the old ones and one of the event, or just the old ones if it is skipped
 abbrev pub FollowsOne : List Start → List Entry → Event → List Entry → Type 0
 FollowsOne starts old event new =
     MatchOption (required_input starts old event) (new ≡ old) (λ input. (e : Entry) × IsEntryOf starts old event input e × (new ≡ old ++ e ∷ []))

@@ -1,4 +1,4 @@
--- The definitions at both stored scripts, and at what is skipped.
+-- The definitions on both stored scripts, and on events that are skipped.
 use Rattle.std.specs.Prelude.{◌≡◌, ℕ, true, false, List, [], ◌∷◌, ◌++◌, map, take, slice_get, Some, None, refl}
 use Rattle.std.specs.List.{AllByRecursion}
 use Rattle.std.proofs.Common.{lit<, arith, zero, suc, sym, ◌∙◌, subst}
@@ -288,7 +288,7 @@ noise = refl
 moments : map (λ m. last_of_member three second_trace m) (0 ∷ 1 ∷ 2 ∷ []) ≡ 21 ∷ 200100 ∷ 100100 ∷ []
 moments = refl
 
--- words: a timer's wait is by the next word of its member's source
+-- random numbers: the next one of its member's generator chooses a timer's wait
 
 abbrev hears_c : (wait : ℕ) → Entry
 hears_c wait = hears 1 10 (Data third_drawop) (ask_arm 1 0 wait ∷ [])
@@ -305,7 +305,7 @@ no_word_stays h = absurd (let k : 5 ∷ 7 ∷ [] ≡ 7 ∷ [] = h.1 in cc)
 another_wait : AreByWords next_listed (in_roster 1 2 4204) (5 ∷ 7 ∷ []) (hears_c 200007 ∷ []) (7 ∷ []) → ⊥
 another_wait h = let k : 200007 ≡ 200005 = h.0 in absurd (omega (arith, k))
 
--- two timers of one entry take two words, in their order
+-- two timers of one entry take two numbers, in their order
 abbrev two_arms : Entry
 two_arms = hears 1 10 (Data third_drawop) (ask_arm 1 0 200005 ∷ ask_arm 2 0 200007 ∷ [])
 
@@ -322,7 +322,7 @@ over_two_entries = (refl, (refl, refl))
 no_word_without_a_timer : AreByWords next_listed (in_roster 1 2 4204) (5 ∷ 7 ∷ []) [] (7 ∷ []) → ⊥
 no_word_without_a_timer h = absurd (let k : 7 ∷ [] ≡ 5 ∷ 7 ∷ [] = h in cc)
 
--- each member has its own source
+-- each member has a generator
 own_words : AreByOwnWords next_listed two ((5 ∷ []) ∷ (7 ∷ []) ∷ []) (hears_c 200007 ∷ []) ((5 ∷ []) ∷ [] ∷ [])
 own_words = record { count = refl; each = at }
   where
@@ -338,7 +338,7 @@ no_words = []
 the_other_source_stays : AreByOwnWords next_listed two ((5 ∷ []) ∷ (7 ∷ []) ∷ []) (hears_c 200007 ∷ []) (no_words ∷ no_words ∷ []) → ⊥
 the_other_source_stays h = absurd (let k : no_words ≡ 5 ∷ [] = h.each 0 (start 2 0) (5 ∷ []) no_words refl refl refl in cc)
 
--- what a recorder and a world gained is by the words that went
+-- the numbers that were consumed chose the waits in what a recorder and a world gained
 
 abbrev recorded : List Entry → List ℕ → RecorderView (List ℕ)
 recorded entries words = record { journal = record { start = start 2 1; entries = entries }; words = words }

@@ -1,4 +1,4 @@
--- The messages that one page worker was given and didn't take yet.
+-- The messages that one page worker was given and hasn't taken yet.
 use Rattle.std.specs.Prelude.{ℕ, List}
 use Rattle.std.specs.VecDeque.{deque_capacity}
 use Rattle.srm_names.specs.declared.page_msg.PageMsg.{PageMsg}

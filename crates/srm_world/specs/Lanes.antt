@@ -1,4 +1,4 @@
--- The messages that the page workers of a member were given and didn't take yet.
+-- The messages that the page workers of a member were given and haven't taken yet.
 use Rattle.std.specs.Prelude.{◌≡◌, ℕ, ◌<◌, ◌==◌, List, [], ◌++◌, length, slice_get, Option, Some, option_to_list, if◌then◌else◌}
 use Rattle.srm_names.specs.declared.limits.TheConstants.{PAGES}
 use Rattle.srm_names.specs.declared.page_msg.PageMsg.{PageMsg}
@@ -23,12 +23,12 @@ pub record HasRoom (slot : ℕ) (lanes : List LaneContent) : Type 0 where
 abbrev pub in_lane : ℕ → List PageMsg → ℕ → List PageMsg
 in_lane slot messages j = if j == slot then messages else []
 
--- what waits in the slot has these messages more at its end, and the others have what they had
+-- these messages come last in what waits in this slot; the other slots have what they had
 pub record Gains (slot : ℕ) (more : List PageMsg) (old new : List LaneContent) : Type 0 where
   pub each : (j : ℕ) (l : LaneContent) → slice_get new j ≡ Some l
       → (w : LaneContent) × (slice_get old j ≡ Some w) × (l.waiting ≡ w.waiting ++ in_lane slot more j)
 
--- the message is the first that waits in the slot, if one does; all else waits on
+-- the message is the first that waited in the slot, if one did; all others still wait
 pub record Loses (slot : ℕ) (message : Option PageMsg) (old new : List LaneContent) : Type 0 where
   pub each : (j : ℕ) (l : LaneContent) → slice_get new j ≡ Some l
       → (w : LaneContent) × (slice_get old j ≡ Some w) × (w.waiting ≡ in_lane slot (option_to_list message) j ++ l.waiting)

@@ -1,4 +1,4 @@
--- One member of a world: its agent, and what the world keeps of it beside.
+-- One member of a world: its agent, and what else the world keeps for it.
 use Rattle.std.specs.Prelude.{◌≡◌, ℕ, List, [], ◌∷◌, ◌++◌, Option, Some, slice_get}
 use Rattle.srm_codec.specs.declared.datagram.Datagram.{Datagram}
 use Rattle.srm_codec.specs.Spelling.{Spells}
@@ -43,7 +43,7 @@ pub record ParticipantFits {W : Type 0} (c : Config) (made : ℕ) (past : List E
   pub state : p.state ≡ state past
   pub lanes : LanesFit past p.lanes
 
--- the last moment after an entry: that of a refused call doesn't count
+-- the last moment after an entry: that of a call that failed doesn't count
 abbrev pub last_with : ℕ → Verdict → ℕ → ℕ
 last_with last (Refused fault) moment = last
 last_with last _ moment = moment
@@ -53,22 +53,23 @@ pub record ParticipantAdds {W : Type 0} (c : Config) (made : ℕ) (past : List E
   pub moment : e.moment ≡ moment_that_counts now (last_moment made past)
   pub fits : ParticipantFits c made (past ++ e ∷ []) new
 
--- the same of whatever entries the member fitted, where the entry is of this input, and its waits are by the next words
+-- The entry is of this input, and whatever entries the member fitted, it fits them with this one added. The generator's next numbers
+-- chose its waits.
 pub record GoesOn {W : Type 0} (next_word : W → ℕ × W) (now : Option ℕ) (input : Input) (old new : ParticipantContent W) (e : Entry) : Type 0 where
   pub input_is : e.input ≡ input
   pub adds : (c : Config) (made : ℕ) (past : List Entry) → ParticipantFits c made past old → ParticipantAdds c made past now new e
   pub words : AreChosen next_word (low_of old.agent.config) (high_of old.agent.config) old.agent.words e.effects.arms new.agent.words
 
--- whatever entries the member fitted, it still fits, and no word was used
+-- whatever entries the member fitted, it still fits, and no random number was consumed
 pub record ParticipantStays {W : Type 0} (old new : ParticipantContent W) : Type 0 where
   pub fits : (c : Config) (made : ℕ) (past : List Entry) → ParticipantFits c made past old → ParticipantFits c made past new
   pub words : new.agent.words ≡ old.agent.words
 
--- where the bytes spell a datagram, the entry is of this datagram, or of noise where the member is gone
+-- if the bytes encode a datagram, the entry is of this datagram, or of noise if the member is gone
 pub record HearsBytes {W : Type 0} (bytes : List ℕ) (old : ParticipantContent W) (e : Entry) : Type 0 where
   pub each : (c : Config) (made : ℕ) (past : List Entry) (g : Datagram) → ParticipantFits c made past old → Spells c.session g bytes
       → e.input ≡ input_heard (is_gone (state past)) g
 
--- these are the datagrams of the entry, each with its spelling in the session, whatever entries the member fitted
+-- these are the datagrams of the entry, each with its bytes in the session, whatever entries the member fitted
 pub record SendsOuts {W : Type 0} (old : ParticipantContent W) (e : Entry) (outs : List Out) : Type 0 where
   pub each : (c : Config) (made : ℕ) (past : List Entry) → ParticipantFits c made past old → AreOutsOf c.session outs e.effects.outs

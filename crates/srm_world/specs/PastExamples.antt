@@ -1,4 +1,4 @@
--- A past that nobody keeps, entry by entry.
+-- A history that isn't stored, entry by entry.
 use Rattle.std.specs.Prelude.{◌≡◌, List, [], ◌∷◌, refl}
 use Rattle.srm_entries.specs.declared.entry.Entry.{Entry}
 use Rattle.srm_entries.specs.Sample.{first_drawop, second_drawop, draws}
@@ -6,7 +6,7 @@ use Rattle.srm_world.specs.declared.forgotten.Last.{Last}
 use Rattle.srm_world.specs.declared.forgotten.Last.TheVariants.{Nothing, Appended}
 use Rattle.srm_world.specs.Pasts.{up_to_last}
 
--- an entry appended to what a past shows
+-- an entry appended to what contracts see
 abbrev behind : List Entry → Entry → Last Entry
 behind before last = Appended (record { marker = record {}; value = before }) (record { marker = record {}; value = last })
 
@@ -25,6 +25,6 @@ the_first = refl
 in_order : up_to_last two ≡ draws 0 1 first_drawop ∷ draws 0 2 second_drawop ∷ []
 in_order = refl
 
--- what stood before it is part of it
+-- the history has what was before its last entry too
 not_the_last_alone : up_to_last two ≡ draws 0 2 second_drawop ∷ [] → ⊥
 not_the_last_alone e = cc

@@ -28,7 +28,7 @@ abbrev pub is_take : Input → Bool
 is_take (Took slot) = true
 is_take _ = false
 
--- the entry is of a call of an agent, and not of a page worker that takes
+-- the entry is of a call of an agent, and not of a page worker's take
 abbrev pub IsUntaken : Entry → Type 0
 IsUntaken e = is_take e.input ≡ false
 
@@ -59,7 +59,7 @@ IsAtPlace members p = (p.1.config.me ≡ p.0) × (p.1.config.members ≡ members
 abbrev pub SameSession : Start → Start → Type 0
 SameSession a b = a.config.session ≡ b.config.session
 
--- at least one member; one configuration for each member of one roster, in order, in one session
+-- at least one member, and one configuration for each member of one roster, in order, in one session
 pub record IsRoster (starts : List Start) : Type 0 where
   pub some : 0 < length starts
   pub places : AllByRecursion (IsAtPlace (length starts)) (enumerate_from 0 starts)

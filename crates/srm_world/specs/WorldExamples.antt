@@ -1,4 +1,4 @@
--- What a world and a recorder keep, at small values.
+-- What a world and a recorder keep, on small examples.
 use Rattle.std.specs.Prelude.{◌≡◌, List, [], ◌∷◌, map, replicate, Some, None, Ok, Err, refl}
 use Rattle.std.proofs.Common.{inl, inr, lit<}
 use Rattle.srm_names.specs.declared.page_msg.PageMsg.TheVariants.{Close, Left}
@@ -29,7 +29,7 @@ begins = refl
 by_slot : map (in_lane 3 (Left 0 ∷ Close ∷ [])) (2 ∷ 3 ∷ 4 ∷ []) ≡ [] ∷ (Left 0 ∷ Close ∷ []) ∷ [] ∷ []
 by_slot = refl
 
--- the moment of a refused call doesn't count
+-- the moment of a call that failed doesn't count
 counted : last_with 5 Done 9 ∷ last_with 5 (Refused Leaving) 9 ∷ [] ≡ 9 ∷ 5 ∷ []
 counted = refl
 
@@ -56,7 +56,7 @@ recorded = inl (leaves, grows, refl, tt)
 unrecorded : Records {A = Unit {0}} (Some 2) AskedLeave (λ _ _. Unit {0}) (journal (shows ∷ [])) (journal (shows ∷ [])) (Err Memory)
 unrecorded = inr (refl, refl)
 
--- bytes that spell nothing, one after another: each has its entry, at the last moment that counted
+-- bytes that encode nothing, one after another: each has its entry, at the last moment that counted
 abbrev noise : DecodeFault → Entry
 noise fault = entry_without_effects 0 7 Noise (Ignored (Decode fault)) None Active
 

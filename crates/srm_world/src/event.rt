@@ -3,8 +3,8 @@
 use bytes::Bytes;
 use srm_names::Page;
 
-/// What happens next, at a moment in microseconds, at most 2^48, where it takes one. Members have the numbers from 0, and slots 0
-/// to 7. An event that names another is skipped. A lost datagram is one that is never delivered.
+/// What happens next, at a moment in microseconds, at most 2^48. Members are numbered from 0, page slots from 0 to 7; an event that names
+/// another is skipped. A lost datagram is one that no event delivers. A give or a take has no moment.
 #[derive(Debug, Drop)]
 pub enum Event {
     /// A member draws on a page.
@@ -14,13 +14,13 @@ pub enum Event {
         page: Page,
         body: Bytes,
     },
-    /// A datagram comes to a member, by its number from 0 in the order of sending.
+    /// A datagram comes to a member. `index` is its number from 0 in the order of sending.
     Deliver {
         member: u8,
         now: u64,
         index: usize,
     },
-    /// A member asks, repairs and sends what is due.
+    /// A member requests, repairs and sends what is due.
     Tick {
         member: u8,
         now: u64,
@@ -36,12 +36,12 @@ pub enum Event {
         member: u8,
         now: u64,
     },
-    /// A member gives the next message of a slot to its page worker.
+    /// A member gives the next message of a page slot to its worker.
     Give {
         member: u8,
         slot: u8,
     },
-    /// The page worker of a slot takes the next message that it was given.
+    /// The worker of a page slot takes the next message that it was given.
     Take {
         member: u8,
         slot: u8,
@@ -52,7 +52,7 @@ impl Event {
     ghost use Rattle.std.specs.Prelude.{◌≡◌};
     ghost use Rattle.srm_world.specs.Events.{member_of};
 
-    /// The number of the member that the event names.
+    /// Returns the number of the member that the event names.
     pub fn member(&self) -> u8
         ensures { result ≡ member_of self.now }
     {

@@ -9,7 +9,7 @@ use thiserror::Error;
 /// Why a world stops. It is then as after the events before.
 #[derive(Clone, Copy, Debug, PartialEq, Eq, Error)]
 pub enum WorldFault {
-    /// Memory ran out.
+    /// Out of memory.
     #[error("out of memory")]
     Memory = 1,
 }

@@ -1,4 +1,4 @@
-//! A past that nobody keeps.
+//! A history that isn't stored.
 
 ghost use Rattle.std.specs.Prelude.{◌≡◌, []};
 
@@ -7,15 +7,15 @@ use std::alloc::{AllocError, Global};
 use std::marker::Model;
 use std::snapshot::Snapshot;
 
-/// A past that nobody keeps. Contracts see what was appended, and each is given back at once: what is left of it has no bytes. So it
-/// never grows, and nothing is read from it.
+/// A history that isn't stored: each item is dropped once appended. It never grows, and nothing can be read from it. Contracts see all
+/// items all the same.
 #[cycle(forgotten)]
 #[derive(Drop)]
 pub struct Forgotten<T> {
     last: Last<T>,
 }
 
-// The last behind what was before it, as contracts saw them.
+// The last item and the history before it, for contracts alone.
 #[cycle(forgotten)]
 #[derive(Drop)]
 enum Last<T> {
@@ -40,7 +40,7 @@ impl<T> Model for Forgotten<T> {
 }
 
 impl<T> Forgotten<T> {
-    /// A past to which nothing was appended.
+    /// Makes an empty history. Takes no memory.
     pub fn new() -> Forgotten<T>
         ensures { result ≡ [] }
     {

@@ -1,4 +1,4 @@
-//! What one member did.
+//! Journals: what one member did.
 
 ghost use Rattle.std.specs.Prelude.{◌≡◌};
 ghost use Rattle.srm_world.specs.Claims.{IsLawfulJournal};
@@ -8,8 +8,8 @@ use crate::start::Start;
 use srm_agent::Entry;
 use std::marker::Model;
 
-/// How a member began, and what it did. A [`Recorder`](crate::Recorder) alone makes it. Contracts see it as a record, whose entries are all that
-/// the member did, also where [`Forgotten`](crate::Forgotten) kept none of them.
+/// How a member began, and what it did. Only a [`Recorder`](crate::Recorder) makes one. Contracts see it as a record with all entries of
+/// the member, also those that [`Forgotten`](crate::Forgotten) didn't store.
 #[derive(Debug, Drop)]
 pub struct Journal<P: Past<Entry> + Drop = Vec<Entry>> {
     pub(crate) start: Start,
@@ -27,14 +27,14 @@ impl<P: Past<Entry> + Drop> Model for Journal<P> {
 }
 
 impl<P: Past<Entry> + Drop> Journal<P> {
-    /// How the member began.
+    /// Returns how the member began. Takes no memory.
     pub fn start(&self) -> Start
         ensures { result ≡ self.now.start }
     {
         self.start
     }
 
-    /// How the member began, and its entries as they are kept. It takes no memory.
+    /// Takes the journal apart into how the member began, and its entries as they are stored. Takes no memory.
     pub fn into_parts(self) -> (Start, P)
         ensures start { result.0 ≡ self.start }
         ensures entries { P.appended result.1 ≡ self.entries }
@@ -44,7 +44,7 @@ impl<P: Past<Entry> + Drop> Journal<P> {
 }
 
 impl Journal {
-    /// The entries of the member, oldest first: a run of it, whatever came to it, without takes. It takes no memory.
+    /// Returns the entries of the member, oldest first. They are a run of it, whatever came to it, and none is a take. Takes no memory.
     pub fn entries(&self) -> &[Entry]
         ensures value { result.now ≡ self.now.entries }
         ensures lawful { IsLawfulJournal self.now }

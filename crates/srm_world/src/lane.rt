@@ -1,4 +1,4 @@
-//! What one page worker was given and didn't take yet.
+//! The messages that one page worker hasn't taken yet.
 
 ghost use Rattle.std.specs.Prelude.{◌≡◌, ◌<◌, ◌++◌, [], ◌∷◌, drop, length, slice_get, OnOk};
 
@@ -7,7 +7,7 @@ use std::alloc::{AllocError, Global};
 use std::collections::VecDeque;
 use std::marker::Model;
 
-/// The messages that one page worker was given and didn't take yet, oldest first. Contracts see the list, and the room.
+/// The messages that one page worker was given and hasn't taken yet, oldest first. Contracts see the list, and the room.
 #[derive(Drop)]
 pub struct Lane {
     messages: VecDeque<PageMsg>,
@@ -22,6 +22,7 @@ impl Model for Lane {
 }
 
 impl Lane {
+    /// Makes an empty lane. Takes no memory.
     pub fn new(alloc: Global) -> Lane
         ensures { result.waiting ≡ [] }
     {
@@ -30,7 +31,7 @@ impl Lane {
         }
     }
 
-    /// Makes room for one more message.
+    /// Makes room for one more message. What waits stays. Fails only if out of memory.
     pub fn reserve(&mut self) -> Result<(), AllocError>
         ensures waiting { self.new.waiting ≡ self.old.waiting }
         ensures ok { OnOk result (length self.new.waiting < self.new.capacity) }
@@ -38,7 +39,7 @@ impl Lane {
         self.messages.reserve(1)
     }
 
-    /// The worker was given a message.
+    /// Adds a message for the worker. The caller has made room. Takes no memory.
     pub fn give(&mut self, message: PageMsg)
         requires { length self.old.waiting < self.old.capacity }
         ensures { self.new.waiting ≡ self.old.waiting ++ message ∷ [] }
@@ -46,7 +47,7 @@ impl Lane {
         let _ = self.messages.push_back(message);
     }
 
-    /// The worker takes the oldest message, if there is one. It takes no memory.
+    /// Takes the oldest message; `None` if none waits. Takes no memory.
     pub fn take(&mut self) -> Option<PageMsg>
         ensures oldest { result ≡ slice_get self.old.waiting 0 }
         ensures rest { self.new.waiting ≡ drop 1 self.old.waiting }

@@ -1,4 +1,4 @@
-//! What the page workers of one member were given and didn't take yet.
+//! The messages that the page workers of one member haven't taken yet.
 
 ghost use Rattle.std.specs.Prelude.{◌<◌, [], Some, OnOk, IfOk, option_to_list};
 ghost use Rattle.srm_names.specs.declared.limits.TheConstants.{PAGES};
@@ -9,7 +9,7 @@ use srm_names::{PAGES, PageMsg};
 use std::alloc::{AllocError, Global};
 use std::marker::Model;
 
-/// A lane for each slot of a member. Contracts see the list of lanes.
+/// A lane for each page slot of a member. Contracts see the list of lanes.
 #[derive(Drop)]
 pub struct Lanes {
     lanes: Vec<Lane>,
@@ -28,7 +28,7 @@ impl Model for Lanes {
 }
 
 impl Lanes {
-    /// Empty lanes. Only want of memory refuses them.
+    /// Makes empty lanes. Fails only if out of memory.
     pub fn new(alloc: Global) -> Result<Lanes, AllocError>
         ensures { IfOk result AreEmpty }
     {
@@ -39,7 +39,7 @@ impl Lanes {
         Ok(Lanes { lanes })
     }
 
-    /// Makes room for one more message in a slot.
+    /// Makes room for one more message in a slot, 0 to 7. What waits stays. Fails only if out of memory.
     pub fn reserve(&mut self, slot: u8) -> Result<(), AllocError>
         requires { slot < PAGES }
         ensures same { Gains slot [] self.old self.new }
@@ -48,7 +48,7 @@ impl Lanes {
         self.lanes[usize::from(slot)].reserve()
     }
 
-    /// The worker of a slot was given a message, or none.
+    /// Adds a message, if there is one, to what waits for the worker of a slot. The caller has made room. Takes no memory.
     pub fn give(&mut self, slot: u8, message: Option<PageMsg>)
         requires slot { slot < PAGES }
         requires room { HasRoom slot self.old }
@@ -60,7 +60,7 @@ impl Lanes {
         }
     }
 
-    /// The worker of a slot takes the oldest message, if there is one. It takes no memory.
+    /// Takes the oldest message that waits for the worker of a slot; `None` if none does. Takes no memory.
     pub fn take(&mut self, slot: u8) -> Option<PageMsg>
         requires { slot < PAGES }
         ensures { Loses slot result self.old self.new }

@@ -2,20 +2,21 @@
 
 ghost use Rattle.srm_world.specs.Claims.{LawfulLaw, RestLaw, TakesLaw};
 
-/// In every honest run of all members, what a page worker takes of a source is a prefix of what that source drew there,
-/// each drawop once and in order. It is all of it once the source's leaving is taken.
+/// The law of takes. In every honest run of all members, what a page worker takes of a source is a prefix of what that source drew on the
+/// page, each drawop once and in order. It is all of it once the source's leaving is taken.
 pub fn takes()
     ensures { TakesLaw }
 {}
 
-/// The law of rest: in every honest run of several members, two that are at rest on a page know of the same drawops there, and
-/// have released the same.
+/// The law of rest. In every honest run of all members, two that are at rest on a page know of the same drawops there, and have released
+/// the same. Two members are at rest on a page if neither misses anything there, and each has heard a session message for the page that
+/// the other sent when it knew there all that it knows now.
 pub fn rests()
     ensures { RestLaw }
 {}
 
-/// Every honest run of all members has all laws: of these two, and that each member asks and repairs in time, gives what is released to it
-/// and keeps its rate. So whoever shows that entries are an honest run, whatever made them, has the laws of them.
+/// All laws hold of every honest run of all members, whatever made it: [`takes`], [`rests`], and that each member requests and repairs in
+/// time, gives what is released to it and keeps its rate.
 pub fn honest_runs_are_lawful()
     ensures { LawfulLaw }
 {}

@@ -1,9 +1,8 @@
 //! Several members of one session, and what they did.
 //!
-//! [`World`] applies events to all of them, and keeps a [`Trace`]; [`Recorder`] is one member that keeps its [`Journal`]. What
-//! holds of every run is proved over the definitions alone, and cited by the calls: what page workers take was drawn ([`takes`]),
-//! and members at rest have released the same ([`rests`]). Whoever shows that entries are an honest run has all of it
-//! ([`honest_runs_are_lawful`]).
+//! [`World`] applies events to all members, and keeps a [`Trace`]. [`Recorder`] is one member that keeps its [`Journal`]. Two laws hold
+//! of every honest run: what page workers take was drawn ([`takes`]), and members at rest have released the same ([`rests`]).
+//! [`honest_runs_are_lawful`] says so for all laws at once, whatever made the run.
 //!
 //! ```
 //! let mut world = World::new(alloc, configs, words)?;
@@ -15,11 +14,11 @@
 //! let entries = world.trace().entries();
 //! ```
 //!
-//! A program with one member that is to keep what it did takes a [`Recorder`] in place of an agent: the calls are the same. One that runs for days takes a
-//! [`Recorder::forgetful`], which keeps no entry and never grows for one: contracts see its journal all the same.
+//! A program that keeps the journal of its member uses a [`Recorder`] in place of an agent: the calls are the same. One that runs for
+//! days makes it with [`Recorder::forgetful`], which stores no entries; contracts see its journal all the same.
 //!
-//! **What is refused.** A world is refused for want of memory alone, and is then as after the events before. What a member
-//! refuses or ignores is an entry that says so; an event of a member, a datagram or a slot that isn't there is skipped.
+//! **Errors.** A world fails only if out of memory, and is then as after the events before. If a member refuses or ignores an event, the
+//! entry says so. An event is skipped if its member, datagram or slot doesn't exist.
 #![tactic(auto)]
 
 mod appending;

@@ -15,7 +15,9 @@ use srm_timers::Words;
 use std::alloc::{AllocError, Global};
 use std::marker::Model;
 
-/// One member of a world: its agent, and what its page workers were given and didn't take yet.
+/// One member of a world: its agent, and the messages that its page workers haven't taken yet.
+///
+/// Its calls return their entries. They fail only if out of memory, and then the member is as before, with no random number consumed.
 #[derive(Drop)]
 pub struct Participant<W: Words + Drop> {
     alloc: Global,
@@ -36,7 +38,7 @@ impl<W: Words + Drop> Model for Participant<W> {
 }
 
 impl<W: Words + Drop> Participant<W> {
-    /// A member that was made at a moment, in microseconds, and did nothing yet. Only want of memory refuses it.
+    /// Makes a member at a moment, in microseconds, at most 2^48.
     pub fn new(
         alloc: Global,
         config: Config,
@@ -57,7 +59,7 @@ impl<W: Words + Drop> Participant<W> {
         })
     }
 
-    /// Draws on a page.
+    /// Draws on a page, at a moment in microseconds.
     pub fn draw(&mut self, page: Page, body: Bytes, now: u64) -> Result<Entry, AllocError>
         requires { now ≤ LATEST_MOMENT }
         ensures ok { IfOk result (GoesOn W.next_word (Some now) (Input.Drew page body) self.old self.new) }
@@ -68,7 +70,7 @@ impl<W: Words + Drop> Participant<W> {
         Ok(entry)
     }
 
-    /// Shows a page.
+    /// Shows a page, at a moment in microseconds.
     pub fn show(&mut self, page: Page, now: u64) -> Result<Entry, AllocError>
         requires { now ≤ LATEST_MOMENT }
         ensures ok { IfOk result (GoesOn W.next_word (Some now) (Input.Showed page) self.old self.new) }
@@ -79,7 +81,7 @@ impl<W: Words + Drop> Participant<W> {
         Ok(entry)
     }
 
-    /// Begins to leave.
+    /// Begins to leave, at a moment in microseconds.
     pub fn leave(&mut self, now: u64) -> Result<Entry, AllocError>
         requires { now ≤ LATEST_MOMENT }
         ensures ok { IfOk result (GoesOn W.next_word (Some now) Input.AskedLeave self.old self.new) }
@@ -90,7 +92,7 @@ impl<W: Words + Drop> Participant<W> {
         Ok(entry)
     }
 
-    /// Takes note of the moment that counts last after an entry, and of the state.
+    /// Notes the last moment that counted after an entry, and the state.
     fn note(&mut self, entry: &Entry)
         ensures { self.new ≡ record self.old { last = last_with self.old.last entry.now.verdict entry.now.moment; state = entry.now.effects.state } }
     {

@@ -1,34 +1,36 @@
-//! What went by so far.
+//! Where a history is stored.
 
 ghost use Rattle.std.specs.Prelude.{◌≡◌, ◌<◌, ◌++◌, List, [], ◌∷◌, IfOk, OnErr, vec_len, vec_capacity};
 
 use crate::appending;
 use std::alloc::{AllocError, Global};
 
-/// What went by so far, oldest first: a recorder's entries, or what a page worker took. A `Vec` keeps each, and
-/// [`Forgotten`](crate::Forgotten) none. Contracts see them all in any case. A program may keep them in a way of its own.
+/// Stores a history, oldest first: a recorder's entries, or the messages that a page worker took. A `Vec` stores each item, and
+/// [`Forgotten`](crate::Forgotten) none. Contracts see all items in any case. A program may implement another store.
 pub trait Past<T> {
     // What was appended, in order.
     ghost appended: { Self → List T };
 
-    // That one may be appended.
+    // There is room for one item.
     ghost has_room: { Self → Type 0 };
 
-    // What holds of one that was refused room.
+    // What holds if `make_room` fails.
     ghost is_refused: { Self → Type 0 };
 
-    /// One to which nothing was appended. It takes no memory.
+    /// Makes an empty history. Takes no memory.
     fn empty(alloc: Global) -> Self
         ensures { appended result ≡ [] };
 
-    /// Makes room for one. Only want of memory refuses it, and what may be refused each past says: a `Vec` that is full, and
-    /// [`Forgotten`](crate::Forgotten) nothing.
+    /// Makes room for one item. The history stays.
+    ///
+    /// Fails only if out of memory, and only as the implementation allows by `is_refused`: a `Vec` fails only if it is full, and
+    /// [`Forgotten`](crate::Forgotten) never.
     fn make_room(&mut self) -> Result<(), AllocError>
         ensures same { appended self.new ≡ appended self.old }
         ensures room { IfOk result (λ _. has_room self.new) }
         ensures refused { OnErr result (is_refused self.new) };
 
-    /// Appends one where there is room.
+    /// Appends an item. The caller has made room.
     fn append(&mut self, one: T)
         requires { has_room self.old }
         ensures { appended self.new ≡ appended self.old ++ one ∷ [] };

@@ -22,9 +22,12 @@ use srm_timers::Words;
 use std::alloc::{AllocError, Global};
 use std::marker::Model;
 
-/// An agent that keeps its journal: each call answers as the agent's, and appends its entry to its [`Past`]. Room for the entry is made first, so
-/// here want of memory may come before another refusal; a call that is refused for it has no entry. Contracts see the journal, whatever the past
-/// keeps of it, and the words as they stand.
+/// An agent that keeps its journal. Its calls do and return what the agent's do, and append their entries to a [`Past`].
+///
+/// A call makes room for its entry first, so [`AgentFault::Memory`] may come before another fault. On `Memory` the call has no entry, and
+/// the journal is unchanged. A call with another fault has an entry that says so.
+///
+/// Contracts see the journal, whatever the [`Past`] stores, and the state of the generator of random numbers.
 #[derive(Drop)]
 pub struct Recorder<W: Words + Drop, P: Past<Entry> + Drop = Vec<Entry>> {
     agent: Agent<W>,
@@ -44,7 +47,10 @@ impl<W: Words + Drop, P: Past<Entry> + Drop> Model for Recorder<W, P> {
 }
 
 impl<W: Words + Drop> Recorder<W> {
-    /// An agent that was made at a moment, in microseconds, at most 2^48, and did nothing yet. Only want of memory refuses it.
+    /// Makes an agent at a moment, in microseconds, at most 2^48, with an empty journal that stores all entries. `words` are its random
+    /// numbers.
+    ///
+    /// Fails only if out of memory.
     pub fn new(alloc: Global, config: Config, words: W, now: u64) -> Result<Recorder<W>, AllocError>
         requires { now ≤ LATEST_MOMENT }
         ensures value { IfOk result (λ recorder. recorder ≡ record { journal = record { start = record { config = config; made = now }; entries = [] }; words = words }) }
@@ -52,7 +58,7 @@ impl<W: Words + Drop> Recorder<W> {
         Recorder::with_past(alloc, config, words, now, Vec::new(alloc))
     }
 
-    /// The entries so far, oldest first. It takes no memory.
+    /// Returns the entries so far, oldest first. Takes no memory.
     pub fn entries(&self) -> &[Entry]
         ensures { result.now ≡ self.now.journal.entries }
     {
@@ -61,7 +67,10 @@ impl<W: Words + Drop> Recorder<W> {
 }
 
 impl<W: Words + Drop> Recorder<W, Forgotten<Entry>> {
-    /// The same that keeps no entry, for a member that runs for days. Its calls have the same contracts.
+    /// Makes an agent at a moment, in microseconds, at most 2^48, that stores no entries, for a member that runs for days. Its calls have
+    /// the same contracts.
+    ///
+    /// Fails only if out of memory.
     pub fn forgetful(
         alloc: Global,
         config: Config,
@@ -76,7 +85,9 @@ impl<W: Words + Drop> Recorder<W, Forgotten<Entry>> {
 }
 
 impl<W: Words + Drop, P: Past<Entry> + Drop> Recorder<W, P> {
-    /// The same with a past of the caller's, which has no entry yet.
+    /// Makes an agent at a moment, in microseconds, at most 2^48, that appends its entries to a history of the caller's, which is empty.
+    ///
+    /// Fails only if out of memory.
     pub fn with_past(
         alloc: Global,
         config: Config,
@@ -95,21 +106,21 @@ impl<W: Words + Drop, P: Past<Entry> + Drop> Recorder<W, P> {
         })
     }
 
-    /// [`Agent::new_page`]. It has no entry.
+    /// Returns the name of this member's next page, as [`Agent::new_page`] does. Has no entry.
     pub fn new_page(&self) -> Option<Page>
         ensures { result ≡ page_to_come self.now.journal.start.config self.now.journal.entries }
     {
         self.agent.new_page()
     }
 
-    /// [`Agent::next_due`]. It has no entry.
+    /// Returns the first moment at which a tick does something, as [`Agent::next_due`] does. Has no entry.
     pub fn next_due(&self) -> Option<u64>
         ensures { IsNextDue self.now.journal.start.config self.now.journal.start.made self.now.journal.entries result }
     {
         self.agent.next_due()
     }
 
-    /// [`Agent::distance`]. It has no entry.
+    /// Returns the distance to a member in microseconds, as [`Agent::distance`] does. Has no entry.
     pub fn distance(&self, member: Member) -> u64
         ensures value { result ≡ distance self.now.journal.start.config self.now.journal.entries member }
         ensures longest { result ≤ LONGEST_DISTANCE }
@@ -117,14 +128,14 @@ impl<W: Words + Drop, P: Past<Entry> + Drop> Recorder<W, P> {
         self.agent.distance(member)
     }
 
-    /// [`Agent::state`]. It has no entry.
+    /// Returns whether the member is active, leaving or gone, as [`Agent::state`] does. Has no entry.
     pub fn state(&self) -> AgentState
         ensures { result ≡ state self.now.journal.entries }
     {
         self.agent.state()
     }
 
-    /// [`Agent::draw`].
+    /// Draws on a page, and returns the name of the new drawop, as [`Agent::draw`] does.
     #[tactic(auto, using(crate::proofs::Journaling::records_drawn, crate::proofs::Wording::no_words_recorded, crate::proofs::Journaling::kept_same, crate::proofs::Journaling::entries_same))]
     pub fn draw(&mut self, page: Page, body: Bytes, now: u64) -> Result<Name, AgentFault>
         requires { now ≤ LATEST_MOMENT }
@@ -138,7 +149,7 @@ impl<W: Words + Drop, P: Past<Entry> + Drop> Recorder<W, P> {
         answer
     }
 
-    /// [`Agent::show`].
+    /// Shows a page, as [`Agent::show`] does. Its entry takes memory, so it can fail with [`AgentFault::Memory`].
     pub fn show(&mut self, page: Page, now: u64) -> Result<(), AgentFault>
         requires { now ≤ LATEST_MOMENT }
         ensures records { Records (Some now) (Input.Showed page) (λ _ _. Unit {0}) self.old.journal self.new.journal result }
@@ -151,7 +162,8 @@ impl<W: Words + Drop, P: Past<Entry> + Drop> Recorder<W, P> {
         answer
     }
 
-    /// [`Agent::hear`].
+    /// Hears bytes that came over the network, and returns what became of them, as [`Agent::hear`] does. It may fail with
+    /// [`AgentFault::Memory`] on noise too, whose entry takes memory.
     #[tactic(auto, using(crate::proofs::Journaling::records_heard))]
     pub fn hear(&mut self, bytes: &[u8], now: u64) -> Result<Heard, AgentFault>
         requires { now ≤ LATEST_MOMENT }
@@ -165,8 +177,10 @@ impl<W: Words + Drop, P: Past<Entry> + Drop> Recorder<W, P> {
         answer
     }
 
-    /// Hears each of these at one moment, one after another, as [`hear`](Recorder::hear) would: also behind noise, and behind what is ignored. Want
-    /// of memory alone refuses it; those in front of where memory ran out were heard then, and the others weren't.
+    /// Hears each of these datagrams in order, at one moment, as [`hear`](Recorder::hear) does. Noise and ignored datagrams don't stop
+    /// it.
+    ///
+    /// Fails only with [`AgentFault::Memory`]: then it has heard those before the one that memory ran out for, and no others.
     pub fn hear_all(&mut self, datagrams: &[Vec<u8>], now: u64) -> Result<(), AgentFault>
         requires { now ≤ LATEST_MOMENT }
         ensures records { RecordsAll now (map (λ bytes. bytes.items) datagrams.now) self.old.journal self.new.journal result }
@@ -180,7 +194,8 @@ impl<W: Words + Drop, P: Past<Entry> + Drop> Recorder<W, P> {
         Ok(())
     }
 
-    /// [`Agent::tick`].
+    /// Does what is due at a moment, and returns it, as [`Agent::tick`] does. It may fail with [`AgentFault::Memory`] with nothing due
+    /// too: its entry takes memory.
     #[tactic(auto, using(crate::proofs::Journaling::records_ticked, crate::proofs::Wording::no_words_recorded, crate::proofs::Journaling::kept_same, crate::proofs::Journaling::entries_same))]
     pub fn tick(&mut self, now: u64) -> Result<Ticked, AgentFault>
         requires { now ≤ LATEST_MOMENT }
@@ -194,7 +209,7 @@ impl<W: Words + Drop, P: Past<Entry> + Drop> Recorder<W, P> {
         answer
     }
 
-    /// [`Agent::leave`]. Here it can be refused for memory, which its entry takes.
+    /// Begins to leave, as [`Agent::leave`] does. Its entry takes memory, so it can fail with [`AgentFault::Memory`].
     pub fn leave(&mut self, now: u64) -> Result<(), AgentFault>
         requires { now ≤ LATEST_MOMENT }
         ensures records { Records (Some now) Input.AskedLeave (λ _ _. Unit {0}) self.old.journal self.new.journal result }
@@ -207,7 +222,7 @@ impl<W: Words + Drop, P: Past<Entry> + Drop> Recorder<W, P> {
         answer
     }
 
-    /// [`Agent::give`].
+    /// Gives the next message of a page slot, 0 to 7, as [`Agent::give`] does.
     pub fn give(&mut self, slot: u8) -> Result<Option<PageMsg>, AgentFault>
         requires { slot < PAGES }
         ensures records { Records None (Input.Gave slot) (λ e message. message ≡ e.effects.message) self.old.journal self.new.journal result }
@@ -220,28 +235,28 @@ impl<W: Words + Drop, P: Past<Entry> + Drop> Recorder<W, P> {
         answer
     }
 
-    /// [`Agent::admits_draw`]. It has no entry.
+    /// Whether the rate would let a draw go at once, as [`Agent::admits_draw`] says. Has no entry.
     pub fn admits_draw(&self, body_length: usize, now: u64) -> bool
         ensures { AdmitsDraw self.now.journal.start.config self.now.journal.start.made self.now.journal.entries body_length now result }
     {
         self.agent.admits_draw(body_length, now)
     }
 
-    /// [`Agent::admits_draw_from`]. It has no entry.
+    /// Returns from when on the rate would let a draw go at once, as [`Agent::admits_draw_from`] does. Has no entry.
     pub fn admits_draw_from(&self, body_length: usize) -> Option<u64>
         ensures { AdmitsDrawFrom self.now.journal.start.config self.now.journal.start.made self.now.journal.entries body_length result }
     {
         self.agent.admits_draw_from(body_length)
     }
 
-    /// What the member did so far, as it is kept. It takes no memory.
+    /// Returns the entries so far, as they are stored. Takes no memory.
     pub fn past(&self) -> &P
         ensures { P.appended result.now ≡ self.now.journal.entries }
     {
         &self.past
     }
 
-    /// Gives the recorder up for its journal. It takes no memory.
+    /// Ends the recorder, and returns its journal. Takes no memory.
     pub fn finish(self) -> Journal<P>
         ensures value { result ≡ self.journal }
         ensures lawful { IsLawfulJournal result }

@@ -9,11 +9,13 @@ use srm_names::Items;
 use std::alloc::{AllocError, Global};
 use std::marker::Model;
 
-/// All datagrams that were sent, with their bytes, in order of sending. Contracts see two lists.
+/// All datagrams that were sent, with their bytes, in order of sending. Contracts see two lists: those of the ticks before, and those of
+/// the last one.
 #[derive(Drop)]
 pub struct SentDatagrams {
     earlier: Vec<Out>,
-    /// What the last tick sent. It joins what was sent before at the next event, when a refusal of memory still changes nothing.
+    /// What the last tick sent. It joins the others at the next event, before that changes anything: so an event that runs out of memory
+    /// changes nothing.
     newest: Vec<Out>,
 }
 
@@ -26,7 +28,7 @@ impl Model for SentDatagrams {
 }
 
 impl SentDatagrams {
-    /// Nothing was sent. It takes no memory.
+    /// Makes an empty list. Takes no memory.
     pub fn new(alloc: Global) -> SentDatagrams
         ensures { all_of result ≡ [] }
     {
@@ -36,7 +38,7 @@ impl SentDatagrams {
         }
     }
 
-    /// Makes room for what a tick sends.
+    /// Makes room for what a tick sends. Fails only if out of memory.
     pub fn make_room(&mut self) -> Result<(), AllocError>
         ensures same { all_of self.new ≡ all_of self.old }
         ensures ok { OnOk result (self.new.newest ≡ []) }
@@ -44,7 +46,7 @@ impl SentDatagrams {
         self.earlier.append(&mut self.newest)
     }
 
-    /// A tick sent these datagrams.
+    /// Adds the datagrams that a tick sent. The caller has made room. Takes no memory.
     pub fn add(&mut self, outs: Items<Out>)
         requires { self.old.newest ≡ [] }
         ensures { all_of self.new ≡ all_of self.old ++ outs }
@@ -52,7 +54,7 @@ impl SentDatagrams {
         self.newest = outs.into_vec();
     }
 
-    /// A datagram by its number from 0.
+    /// Returns a datagram by its number from 0 in the order of sending; `None` if there is none. The caller has made room.
     pub fn get(&self, index: usize) -> Option<&Out>
         requires { self.now.newest ≡ [] }
         ensures { option_copied result ≡ slice_get (all_of self.now) index }

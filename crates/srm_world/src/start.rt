@@ -2,7 +2,7 @@
 
 use srm_agent::Config;
 
-/// The settings of a member, and the moment in microseconds at which it was made.
+/// The settings of a member, and the moment when it was made, in microseconds.
 #[derive(Clone, Copy, Debug)]
 pub struct Start {
     pub config: Config,

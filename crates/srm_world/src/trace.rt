@@ -1,4 +1,4 @@
-//! What several members did.
+//! Traces: what several members did.
 
 ghost use Rattle.std.specs.Prelude.{◌≡◌};
 
@@ -22,21 +22,22 @@ impl Model for Trace {
 }
 
 impl Trace {
-    /// Members that began so and did this, in one order. That it is a run of them is for its maker to say. It takes no memory.
+    /// Makes a trace of members that began so and did this, in one order. Whether it is a run of them is for the caller to show. Takes no
+    /// memory.
     pub fn new(starts: Vec<Start>, entries: Vec<Entry>) -> Trace
         ensures { result ≡ record { starts = starts.items; entries = entries.items } }
     {
         Trace { starts, entries }
     }
 
-    /// How the members began, in order of their numbers. It takes no memory.
+    /// Returns how the members began, in order of their numbers. Takes no memory.
     pub fn starts(&self) -> &[Start]
         ensures { result.now ≡ self.now.starts }
     {
         self.starts.as_slice()
     }
 
-    /// The entries of all members, oldest first. It takes no memory.
+    /// Returns the entries of all members, oldest first. Takes no memory.
     pub fn entries(&self) -> &[Entry]
         ensures { result.now ≡ self.now.entries }
     {

@@ -1,4 +1,4 @@
-//! The world of all members.
+//! Worlds: all members of one session, driven by events.
 
 ghost use Rattle.std.specs.Prelude.{◌≡◌, ◌<◌, ◌+◌, ◌↔◌, ℕ, [], ◌∷◌, length, take, All, IfOk, OnOk, OnErr, IsTrue, IsSome};
 ghost use Rattle.std.specs.Vec.Iter.{into_iter_items, into_iter_len};
@@ -22,11 +22,11 @@ use std::alloc::{AllocError, Global};
 use std::marker::Model;
 use std::vec::IntoIter;
 
-/// All members of one session, and what happened so far. What is sent comes to a member only where an event delivers it, so it
-/// may be lost, repeated, late and out of order. Contracts see the trace, and each member's words as they stand.
+/// All members of one session, and what happened so far. A datagram comes to a member only if an event delivers it, so it may be lost,
+/// repeated, late and out of order. Contracts see the trace, and the state of each member's generator of random numbers.
 ///
-/// Whatever happens, the trace is an honest run of all members: what page workers take of a source is a prefix of what it
-/// drew, and all of it once its leaving is taken; each request and each repair is handed out exactly where its timer ran out.
+/// Whatever happens, the trace is an honest run of all members. So what page workers take of a source is a prefix of what it drew, and
+/// all of it once its leaving is taken; and a tick requests and repairs exactly the names whose timers have expired.
 #[derive(Drop)]
 pub struct World<W: Words + Drop> {
     /// By number.
@@ -47,9 +47,10 @@ impl<W: Words + Drop> Model for World<W> {
 }
 
 impl<W: Words + Drop> World<W> {
-    /// A world in which nothing happened yet, with a member for each of the settings, made at moment 0, and words
-    /// for each. The settings are those of all members of one roster, 1 to 32, in order, in one session. Only want of memory
-    /// refuses it.
+    /// Makes a world with one member for each of `configs`, made at moment 0. The configs are those of all members of one roster, 1 to
+    /// 32, in order, in one session. `words` are the random numbers of each member.
+    ///
+    /// Fails only if out of memory.
     pub fn new(alloc: Global, configs: Vec<Config>, words: Vec<W>) -> Result<World<W>, AllocError>
         requires roster { IsRoster (started configs.items) }
         requires words { length words.items ≡ length configs.items }
@@ -76,7 +77,7 @@ impl<W: Words + Drop> World<W> {
         })
     }
 
-    /// What happened so far. It takes no memory.
+    /// Returns what happened so far. Takes no memory.
     #[tactic(auto, using(crate::proofs::Wording::sources_counted))]
     pub fn trace(&self) -> &Trace
         ensures value { result.now ≡ self.now.trace }
@@ -86,10 +87,10 @@ impl<W: Words + Drop> World<W> {
         &self.trace
     }
 
-    /// Applies one event, and answers whether it left an entry. It is skipped where it names no member of the session, no
-    /// datagram that was sent, or no slot. What the member refuses leaves an entry without effects. Its moment is at most 2^48.
+    /// Applies one event, and returns whether it left an entry. It skips an event whose member, datagram or page slot doesn't exist. An
+    /// event that the member refuses leaves an entry without effects. Moments are microseconds, at most 2^48.
     ///
-    /// Refused is [`WorldFault::Memory`] alone, and then the trace and all words are as before.
+    /// Fails only with [`WorldFault::Memory`]: the trace is unchanged, and no random number was consumed.
     pub fn apply(&mut self, event: Event) -> Result<bool, WorldFault>
         requires { IsTimely event }
         ensures follows { OnOk result (FollowsOne self.old.trace.starts self.old.trace.entries event self.new.trace.entries) }
@@ -102,9 +103,10 @@ impl<W: Words + Drop> World<W> {
         self.happen(&event)
     }
 
-    /// Applies events in order, with moments up to 2^48. Want of memory stops it with [`WorldFault::Memory`], and leaves the world
-    /// as after the events before. How many these are it doesn't tell: who would go on from there applies them one by one with
-    /// [`World::apply`].
+    /// Applies events in order, with moments of at most 2^48 microseconds.
+    ///
+    /// Fails only with [`WorldFault::Memory`], and leaves the world as after the events before the one that memory ran out for. It
+    /// doesn't return how many these are: a caller that wants to go on from there applies events one by one with [`World::apply`].
     #[tactic(auto, using(crate::proofs::Stepping::runs_from))]
     pub fn run(&mut self, events: &[Event]) -> Result<(), WorldFault>
         requires { All IsTimely events.now }
@@ -142,7 +144,7 @@ impl<W: Words + Drop> World<W> {
     }
 }
 
-/// The next member's words.
+/// The generator of the next member.
 fn next_source<W: Drop>(sources: &mut IntoIter<W>) -> W
     requires { 0 < into_iter_len sources.old }
     ensures items { into_iter_items sources.old ≡ result ∷ into_iter_items sources.new }

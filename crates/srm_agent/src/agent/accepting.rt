@@ -50,7 +50,7 @@ impl<W: Words + Drop> Agent<W> {
         Ok(accepted(arms, copies))
     }
 
-    /// The names below this one that aren't known of, in order. Only want of memory refuses it.
+    /// The names of this name's stream below it that aren't known of, in order. Fails only if out of memory.
     fn newly_missing_below(&self, name: Name) -> Result<Vec<Name>, AllocError>
         ensures value { IfOk result (λ names. AreNewlyMissingBelow name self.now names.items) }
         ensures rising { IfOk result (λ names. ascending name_below names.items ≡ true) }

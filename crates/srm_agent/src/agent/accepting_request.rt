@@ -17,7 +17,7 @@ use srm_timers::Words;
 use std::alloc::AllocError;
 
 impl<W: Words + Drop> Agent<W> {
-    /// Accepts a request for these names.
+    /// Accepts a request for these names. Fails only if out of memory.
     pub(super) fn accept_request(
         &mut self,
         sender: Member,
@@ -57,7 +57,7 @@ impl<W: Words + Drop> Agent<W> {
         Ok(accepted(arms, copies))
     }
 
-    /// The names of a stream that aren't known of, up to the greatest of these, in order. Only want of memory refuses it.
+    /// The names of a stream that aren't known of, up to the greatest of these, in order. Fails only if out of memory.
     fn newly_missing_up_to(&self, stream: &Stream, names: &[Name]) -> Result<Vec<Name>, AllocError>
         ensures value { IfOk result (λ newly_missing. AreNewlyMissingUpTo stream.now names.now self.now newly_missing.items) }
         ensures rising { IfOk result (λ newly_missing. ascending name_below newly_missing.items ≡ true) }

@@ -19,7 +19,7 @@ use srm_timers::Words;
 use std::alloc::AllocError;
 
 impl<W: Words + Drop> Agent<W> {
-    /// Accepts a session message with these names.
+    /// Accepts a session message with these names. Fails only if out of memory.
     pub(super) fn accept_session(
         &mut self,
         datagram: Datagram,
@@ -51,8 +51,7 @@ impl<W: Words + Drop> Agent<W> {
         Ok(accepted(arms, copies))
     }
 
-    /// The names of the rows' streams that aren't known of, up to the numbers of the rows, in order. Only want of memory
-    /// refuses it.
+    /// The names of the rows' streams that aren't known of, up to the numbers of the rows, in order. Fails only if out of memory.
     fn newly_missing_by_rows(&self, rows: &[Name]) -> Result<Vec<Name>, AllocError>
         requires { ascending row_below rows.now ≡ true }
         ensures value { IfOk result (λ newly_missing. AreNewlyMissingByRows rows.now self.now newly_missing.items) }

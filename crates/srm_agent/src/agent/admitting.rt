@@ -11,10 +11,11 @@ use srm_names::LONGEST_BODY;
 use srm_timers::Words;
 
 impl<W: Words + Drop> Agent<W> {
-    /// Whether the rate would let a drawop with a body of so many bytes go at once, if it were drawn at this moment, in
-    /// microseconds: no request or repair for the page shown waits and no new data, or there are tokens for all of these and for
-    /// its datagram. A body that is too long counts as the longest, of 1,024 bytes. It doesn't say whether the draw is refused. It takes
-    /// no memory and changes nothing, not even the last moment.
+    /// Whether the rate would let a drawop with a body of so many bytes go at once if it were drawn at `now`, in microseconds: no request
+    /// or repair for the page shown and no new data wait, or the tokens cover all of these and its datagram.
+    ///
+    /// A longer body counts as one of 1,024 bytes. Whether the draw would succeed it doesn't say. Takes no memory and changes nothing,
+    /// the last moment too.
     #[tactic(auto, using(crate::proofs::Admitting::admitted))]
     pub fn admits_draw(&self, body_length: usize, now: u64) -> bool
         ensures { DrawAdmitted body_length now self.now result }
@@ -24,10 +25,11 @@ impl<W: Words + Drop> Agent<W> {
             .admits(Class::New, draw_length(body_length), moment)
     }
 
-    /// The first moment, in microseconds, from the last one that counted on, at which [`admits_draw`](Agent::admits_draw) answers true for
-    /// a body of so many bytes, if no other call comes before: from then on it does, and before it doesn't. It may be past 2^48. `None` where what
-    /// waits of these classes and its datagram are more than the bucket's depth: then something waits, and has to go first, of which
-    /// [`next_due`](Agent::next_due) tells when. It takes no memory and changes nothing.
+    /// Returns the moment, in microseconds, from which on [`admits_draw`](Agent::admits_draw) returns true for a body of so many bytes,
+    /// if no other call comes before. It isn't before the last moment that counted, and may be past 2^48.
+    ///
+    /// `None` if the datagram and what waits before it are more than the bucket's depth: then something has to go first, and
+    /// [`next_due`](Agent::next_due) tells when. Takes no memory and changes nothing.
     #[tactic(auto, using(crate::proofs::Admitting::never_admitted, crate::proofs::Admitting::admitted_from))]
     pub fn admits_draw_from(&self, body_length: usize) -> Option<u64>
         ensures { DrawAdmittedFrom body_length self.now result }
@@ -39,7 +41,7 @@ impl<W: Words + Drop> Agent<W> {
     }
 }
 
-/// What the datagram of a draw is charged, in bytes.
+/// What the rate charges for the datagram of a draw, in bytes.
 fn draw_length(body_length: usize) -> u32
     ensures { result ≡ draw_length body_length }
 {

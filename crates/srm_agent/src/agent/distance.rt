@@ -12,9 +12,11 @@ use srm_names::Member;
 use srm_timers::Words;
 
 impl<W: Words + Drop> Agent<W> {
-    /// Returns the one-way distance to a member in microseconds, by which timers wait: 0 to this member itself, and to another from
-    /// [`Config::least_distance`](crate::Config::least_distance) to 10,000,000. Before an echo from a member was heard it is 100,000, or the floor where that is
-    /// more. It takes no memory and changes nothing.
+    /// Returns the one-way distance to a member in microseconds, which bounds the waits of timers. It is 0 to this member itself, and to
+    /// another [`Config::least_distance`](crate::Config::least_distance) to 10,000,000. Until an echo from a member was heard it is
+    /// 100,000, or the floor if that is more.
+    ///
+    /// Takes no memory and changes nothing.
     pub fn distance(&self, member: Member) -> u64
         ensures value { (c : AConfig) (made : ℕ) (past : List AnEntry) → AgentFits c made past self.now → result ≡ distance c past member }
         ensures longest { result ≤ LONGEST_DISTANCE }

@@ -33,7 +33,7 @@ pub(super) struct Draft {
 }
 
 impl<W: Words + Drop> Agent<W> {
-    /// Makes a drawop in each form in which it is needed, and room for it, so that drawing it takes no memory.
+    /// Makes a drawop to hold and one to send, and room for both, so that drawing it takes no memory.
     pub(super) fn draft(
         &mut self,
         name: Name,
@@ -94,7 +94,7 @@ fn stamped(name: Name, moment: u64, body: Bytes) -> Drawop
     }
 }
 
-/// A drawop to send, which is charged the bytes of its datagram.
+/// A drawop to send. The rate charges the bytes of its datagram.
 fn going(alloc: Global, session: u32, drawop: Drawop) -> Result<Item<Outgoing>, AllocError>
     requires { is_drawop drawop }
     ensures value { IfOk result (λ item. IsOutgoingOf session (Data drawop) item.value) }

@@ -34,12 +34,14 @@ use srm_timers::Words;
 use std::alloc::AllocError;
 
 impl<W: Words + Drop> Agent<W> {
-    /// Draws on a page: the next drawop of this member there, with this body and the moment as its stamp. It is sent to the
-    /// others when the rate lets it go. A page that isn't in the table is added to it. The answer is the drawop's name.
+    /// Draws on a page, and returns the name of the new drawop with the entry: this member's next one there, with this body and the
+    /// moment as its stamp. A page without a slot takes a free one. A tick sends the drawop once the rate lets it go. Moments are
+    /// microseconds, at most 2^48.
     ///
-    /// Refused are, in this order: [`AgentFault::Gone`]; [`AgentFault::Leaving`]; [`AgentFault::BodyLong`] where the body has
-    /// more than 1,024 bytes; [`AgentFault::PageLimit`] where the page finds no slot; [`AgentFault::StreamFull`] where this
-    /// member drew 65,536 drawops on the page; [`AgentFault::Memory`].
+    /// The answer is the first of these faults that holds: [`AgentFault::Gone`]; [`AgentFault::Leaving`]; [`AgentFault::BodyLong`] if the
+    /// body has more than 1,024 bytes; [`AgentFault::PageLimit`] if the page has no slot and none is free; [`AgentFault::StreamFull`] if
+    /// this member drew 65,536 drawops on the page. Such a call has an entry, and changes nothing. `AllocError` comes after all of these:
+    /// out of memory there is no entry, and nothing has changed.
     pub fn draw_noted(
         &mut self,
         page: Page,
@@ -75,7 +77,8 @@ impl<W: Words + Drop> Agent<W> {
         })
     }
 
-    /// [`draw_noted`](Agent::draw_noted) without its entry, which isn't made.
+    /// Draws on a page, and returns the name of the new drawop: [`draw_noted`](Agent::draw_noted) without the entry. Its faults are the
+    /// same, with [`AgentFault::Memory`] last.
     pub fn draw(&mut self, page: Page, body: Bytes, now: u64) -> Result<Name, AgentFault>
         requires { now ≤ LATEST_MOMENT }
         ensures { Does W.next_word (Some now) (Input.Drew page body) IsDrawnName self.old self.new result }
@@ -96,7 +99,7 @@ impl<W: Words + Drop> Agent<W> {
         Ok(name)
     }
 
-    /// What a draw is refused for, but that the stream is full: the first that holds.
+    /// The first fault of a draw that holds, a full stream aside.
     fn refusal(&self, page: &Page, length: usize) -> Option<AgentFault>
         ensures { verdict_of_refusal result ≡ first_cause (refusals self.now.state self.now.pages page.now length) }
     {
@@ -114,7 +117,7 @@ impl<W: Words + Drop> Agent<W> {
         None
     }
 
-    /// The name of this member's next drawop on a page, and `None` where the stream is full. All that it drew there is known.
+    /// The name of this member's next drawop on a page, and `None` if the stream is full. All that it drew there is known.
     fn next_name(&self, page: &Page) -> Option<Name>
         ensures value { (c : AConfig) (made : ℕ) (past : List AnEntry) → AgentFits c made past self.now → result ≡ name_after (stream_on c.me page.now) (known past (stream_on c.me page.now)) }
         ensures own { IfSome result (λ name. name.stream.source ≡ self.now.config.me) }
@@ -127,7 +130,7 @@ impl<W: Words + Drop> Agent<W> {
         name_after(&stream, known)
     }
 
-    /// From this moment on the drawop is held, and waits to be sent, and its page is in the table.
+    /// Holds the drawop from this moment on, lets it wait to be sent, and gives its page a slot. Takes no memory.
     fn take_up(&mut self, page: &Page, moment: u64, drawop: Drawop, going: Item<Outgoing>)
         requires room { table_lacks_room self.old.pages page.now ≡ false }
         requires moment { moment ≤ LATEST_MOMENT }
@@ -147,7 +150,7 @@ impl<W: Words + Drop> Agent<W> {
         self.last = moment;
     }
 
-    /// The entry of a draw that is done. It takes no memory.
+    /// The entry of a draw that is done. Takes no memory.
     fn drew(&self, moment: u64, page: Page, body: Bytes, drawop: Drawop) -> Entry
         ensures { result ≡ drawn_entry self.now.config.me moment page body drawop self.now.state }
     {
@@ -169,7 +172,7 @@ impl<W: Words + Drop> Agent<W> {
     }
 }
 
-/// Data that was drawn waits to be sent, behind the data drawn before it. It takes no memory.
+/// Adds new data behind the data that waits to be sent. Takes no memory.
 fn wait_to_go(bucket: &mut Bucket<Outgoing>, going: Item<Outgoing>)
     requires room { 0 < bucket.old.waiting.room }
     requires least { LEAST_LENGTH ≤ going.length }
@@ -180,7 +183,7 @@ fn wait_to_go(bucket: &mut Bucket<Outgoing>, going: Item<Outgoing>)
     bucket.hand(Class::New, going).unwrap();
 }
 
-/// The name after so many of a stream.
+/// The name after so many of a stream, and `None` if the stream is full.
 fn name_after(stream: &Stream, count: u32) -> Option<Name>
     requires { count ≤ DRAWOPS }
     ensures value { result ≡ name_after stream.now count }

@@ -15,29 +15,29 @@ use srm_timers::Words;
 use std::alloc::{AllocError, Global};
 use std::collections::VecDeque;
 
-/// What is due at a moment. It is made before anything changes.
+/// What is due at a moment, made before anything changes.
 #[derive(Drop)]
 pub(super) struct Due {
     pub handed_out: HandedOut,
     /// The requests and the repairs for them.
     pub due_items: VecDeque<DueItem>,
-    /// What a member that is leaving ends with, once no data of its own waits.
+    /// The farewell of a leaving member, which goes once no new data waits.
     pub farewell: Option<DueSessionMessage>,
-    /// The session message, where one is due.
+    /// The session message, if one is due.
     pub session_message: Option<DueSessionMessage>,
 }
 
-/// What a tick hands out.
+/// The names whose timers have expired.
 #[derive(Drop)]
 pub(super) struct HandedOut {
-    /// The names to ask for, in order.
+    /// The names to request, in order.
     pub asks: Items<Name>,
     /// The names to repair, in order.
     pub fixes: Items<Name>,
 }
 
 impl HandedOut {
-    /// The same once more. Only want of memory refuses it.
+    /// Copies the names. Fails only if out of memory.
     pub(super) fn copy(&self, alloc: Global) -> Result<HandedOut, AllocError>
         ensures { IfOk result (λ copy. copy ≡ self.now) }
     {
@@ -57,7 +57,7 @@ pub(super) struct DueSessionMessage {
 }
 
 impl<W: Words + Drop> Agent<W> {
-    /// What is due at a moment, in microseconds, where the member isn't gone. Only want of memory refuses it.
+    /// What is due at a moment, in microseconds, to a member that isn't gone. Fails only if out of memory.
     pub(super) fn due_at(&self, moment: u64) -> Result<Due, AllocError>
         requires { moment ≤ LATEST_MOMENT }
         ensures { IfOk result (IsDue self.now moment) }
@@ -74,7 +74,7 @@ impl<W: Words + Drop> Agent<W> {
         })
     }
 
-    /// The names whose timers have run out at a moment. Only want of memory refuses it.
+    /// The names whose timers have expired at a moment. Fails only if out of memory.
     fn to_hand_out(&self, moment: u64) -> Result<HandedOut, AllocError>
         ensures { IfOk result (IsToHandOut self.now moment) }
     {
@@ -92,7 +92,7 @@ impl<W: Words + Drop> Agent<W> {
         matches!(self.state, AgentState::Leaving)
     }
 
-    /// The session message or the farewell of a moment, where it is wanted. Only want of memory refuses it.
+    /// The session message or the farewell of a moment, if it is wanted. Fails only if out of memory.
     fn session_message_if(
         &self,
         is_wanted: bool,
@@ -109,7 +109,7 @@ impl<W: Words + Drop> Agent<W> {
         }
     }
 
-    /// The session message or the farewell of a moment. Only want of memory refuses it.
+    /// The session message or the farewell of a moment. Fails only if out of memory.
     fn session_message_at(
         &self,
         farewell: bool,
@@ -123,8 +123,8 @@ impl<W: Words + Drop> Agent<W> {
         Ok(DueSessionMessage { outgoing, next })
     }
 
-    /// The requests for names, and then the repairs of those of the others that are held: spelled, each with the class that it has
-    /// while this page is shown. Only want of memory refuses them.
+    /// The requests for `asks`, then the repairs of those of `fixes` that are held: encoded, each with its class while this page is
+    /// shown. Fails only if out of memory.
     fn due_items(&self, asks: &[Name], fixes: &[Name]) -> Result<VecDeque<DueItem>, AllocError>
         requires { ascending name_below asks.now ≡ true }
         ensures { IfOk result (λ due_items. DueItems self.now asks.now fixes.now due_items.items) }

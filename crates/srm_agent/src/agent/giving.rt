@@ -1,4 +1,4 @@
-//! Giving the messages of a slot.
+//! Giving the messages of a page slot.
 
 ghost use Rattle.std.specs.Prelude.{◌≡◌, ◌<◌, ℕ, List, IfOk, OnErr, Ok, Some, None, if◌then◌else◌, slice_get, not, ◌&&◌, false};
 ghost use Rattle.srm_names.specs.declared.limits.TheConstants.{PAGES};
@@ -24,11 +24,13 @@ use srm_timers::Words;
 use std::alloc::AllocError;
 
 impl<W: Words + Drop> Agent<W> {
-    /// Gives the next message of a slot, 0 to 7: its page, once; then, of the smallest source that has something, its next
-    /// drawop, or that it left, once all that it drew on the page was given; and the close, once, when this member is gone
-    /// and there is nothing else. `None` where there is nothing.
+    /// Gives the next message of a page slot, 0 to 7, for its worker, with the entry; `None` if there is nothing to give.
     ///
-    /// Refused is [`AgentFault::Memory`] alone, and then the message is still to come.
+    /// First comes the page, once. Then comes the smallest source that has something: its next released drawop, or that it left, once all
+    /// that it drew on the page was given. When this member is gone and nothing else is left, the close comes, once. The call takes no
+    /// moment: its entry has the last one.
+    ///
+    /// Fails only if out of memory: then the message is still to come, and there is no entry.
     pub fn give_noted(&mut self, slot: u8) -> Result<Noted<Option<PageMsg>>, AllocError>
         requires { slot < PAGES }
         ensures ok { IfOk result (λ noted. Enters W.next_word None (Input.Gave slot) self.old self.new noted.entry) }
@@ -42,7 +44,9 @@ impl<W: Words + Drop> Agent<W> {
         Ok(gave(message, entry))
     }
 
-    /// [`give_noted`](Agent::give_noted) without its entry, which isn't made.
+    /// Gives the next message of a page slot, 0 to 7: [`give_noted`](Agent::give_noted) without the entry.
+    ///
+    /// Fails only with [`AgentFault::Memory`], and then the message is still to come.
     #[tactic(auto, using(crate::proofs::Entering::give_allowed, crate::proofs::Giving::give_enters))]
     pub fn give(&mut self, slot: u8) -> Result<Option<PageMsg>, AgentFault>
         requires { slot < PAGES }
@@ -53,7 +57,7 @@ impl<W: Words + Drop> Agent<W> {
         Ok(message)
     }
 
-    /// A slot is given the message that it may be given next, if there is one. It takes no memory.
+    /// Notes that a slot was given the message that it may be given next, if there is one. Takes no memory.
     fn hand_over(&mut self, slot: u8, message: &Option<PageMsg>)
         requires slot { slot < PAGES }
         requires right { (c : AConfig) (made : ℕ) (past : List AnEntry) → AgentFits c made past self.old → GiveRight c past slot message.now }
@@ -66,7 +70,7 @@ impl<W: Words + Drop> Agent<W> {
         self.progress[usize::from(slot)].give(message);
     }
 
-    /// The message that a slot may be given next.
+    /// The message that a slot may be given next. Fails only if out of memory.
     fn next_message(&self, slot: u8) -> Result<Option<PageMsg>, AllocError>
         requires { slot < PAGES }
         ensures { IfOk result (λ message. (c : AConfig) (made : ℕ) (past : List AnEntry) → AgentFits c made past self.now → GiveRight c past slot message) }
@@ -115,7 +119,7 @@ impl<W: Words + Drop> Agent<W> {
         Ok(None)
     }
 
-    /// The source that goes after so many others: the smallest goes first.
+    /// The source after so many others: the smallest comes first.
     fn source_at(&self, place: u8) -> Member
         requires { place < self.now.config.members }
         ensures { result ≡ place }
@@ -140,14 +144,14 @@ impl<W: Words + Drop> Agent<W> {
         Ok(None)
     }
 
-    /// Whether a stream goes so far and no further, its source having left.
+    /// Whether the source of a stream left after so many drawops there.
     fn is_all(&self, stream: Stream, given: u32) -> bool
         ensures { (c : AConfig) (made : ℕ) (past : List AnEntry) → AgentFits c made past self.now → result ≡ is_some_of given (final past stream) }
     {
         is_final(given, self.store.final_of(stream))
     }
 
-    /// The released drawop of a stream behind so many.
+    /// The released drawop of a stream after so many, if there is one.
     fn released_after(&self, stream: Stream, given: u32) -> Option<&Drawop>
         ensures { (c : AConfig) (made : ℕ) (past : List AnEntry) → AgentFits c made past self.now → option_copied result ≡ slice_get (released past stream) given }
     {
@@ -158,7 +162,7 @@ impl<W: Words + Drop> Agent<W> {
     }
 }
 
-/// Whether a source drew so many drawops and no more, where it left after `last`.
+/// Whether a source drew so many drawops and no more, if it left after `last`.
 fn is_final(given: u32, last: Option<u32>) -> bool
     ensures { result ≡ is_some_of given last }
 {
@@ -175,7 +179,7 @@ fn all_and_new(all: bool, left: bool) -> bool
     all && !left
 }
 
-/// What a slot is given, once more. Only want of memory refuses it.
+/// Copies what a slot is given. Fails only if out of memory.
 fn copy_of(message: &Option<PageMsg>) -> Result<Option<PageMsg>, AllocError>
     ensures { IfOk result (λ copy. copy ≡ message.now) }
 {
@@ -185,7 +189,7 @@ fn copy_of(message: &Option<PageMsg>) -> Result<Option<PageMsg>, AllocError>
     }
 }
 
-/// What a give answered, and its entry.
+/// What a give returns, with its entry.
 fn gave(message: Option<PageMsg>, entry: Entry) -> Noted<Option<PageMsg>>
     ensures entry { result.entry ≡ entry }
     ensures answer { result.answer ≡ Ok message }

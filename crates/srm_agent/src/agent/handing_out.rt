@@ -1,4 +1,4 @@
-//! Handing out the requests and repairs that are due.
+//! Setting the timers of the requests and repairs that are due.
 
 ghost use Rattle.std.specs.Prelude.{◌≡◌, ◌≤◌, true, IfOk, OnErr};
 ghost use Rattle.srm_names.specs.declared.limits.TheConstants.{LATEST_MOMENT};
@@ -14,8 +14,10 @@ use srm_timers::{Arm, Words};
 use std::alloc::AllocError;
 
 impl<W: Words + Drop> Agent<W> {
-    /// Hands out what is due: its timers are set again, or gone. Answers the timers that were set, and once more for the entry, where
-    /// that is noted. Only want of memory refuses it, and then no timer has changed and no word was used.
+    /// Sets the expired request timers again, and ends the expired repair timers. Returns the timers that were set, and a copy for the
+    /// entry if that is noted.
+    ///
+    /// Fails only if out of memory: no timer has changed, and no random number was consumed.
     pub(super) fn hand_out(
         &mut self,
         due: &HandedOut,

@@ -23,14 +23,15 @@ use srm_timers::Words;
 use std::alloc::AllocError;
 
 impl<W: Words + Drop> Agent<W> {
-    /// Hears bytes that came from another member. The datagram that they spell is accepted, or ignored with the first cause that
-    /// holds; bytes that spell none are noise, as all bytes are to a member that is gone. What is ignored changes nothing but
-    /// the last moment.
+    /// Hears bytes that came over the network, and returns what became of them, with the entry. It accepts the datagram that they encode,
+    /// or ignores it with the first cause that holds. Bytes that encode no datagram of the session are noise, and so are all bytes to a
+    /// gone member. What it ignores changes nothing but the last moment. Moments are microseconds, at most 2^48.
     ///
-    /// The causes, in the order in which they count: [`Cause::Gone`], [`Cause::Decode`], [`Cause::Own`], [`Cause::Stranger`],
-    /// [`Cause::PageLimit`], [`Cause::BeyondFinal`], [`Cause::Conflict`].
+    /// The causes in their order: [`Cause::Gone`], [`Cause::Decode`], [`Cause::Own`], [`Cause::Stranger`], [`Cause::PageLimit`],
+    /// [`Cause::BeyondFinal`], [`Cause::Conflict`].
     ///
-    /// Refused is [`AgentFault::Memory`] alone, and only for bytes that spell a datagram of the session: noise takes no memory.
+    /// Fails only if out of memory, and only for a datagram of the session, to a member that isn't gone: noise always succeeds. Then
+    /// nothing has changed, and there is no entry.
     pub fn hear_noted(&mut self, bytes: &[u8], now: u64) -> Result<Noted<Heard>, AllocError>
         requires { now ≤ LATEST_MOMENT }
         ensures ok { IfOk result (λ noted. Enters W.next_word (Some now) noted.entry.input self.old self.new noted.entry) }
@@ -54,7 +55,10 @@ impl<W: Words + Drop> Agent<W> {
         }
     }
 
-    /// [`hear_noted`](Agent::hear_noted) without its entry, which isn't made.
+    /// Hears bytes that came over the network, and returns what became of them: [`hear_noted`](Agent::hear_noted) without the entry.
+    ///
+    /// Fails only with [`AgentFault::Memory`], and only for a datagram of the session, to a member that isn't gone. Then nothing has
+    /// changed.
     pub fn hear(&mut self, bytes: &[u8], now: u64) -> Result<Heard, AgentFault>
         requires { now ≤ LATEST_MOMENT }
         ensures { Hears W.next_word now bytes.now self.old self.new result }
@@ -62,7 +66,7 @@ impl<W: Words + Drop> Agent<W> {
         Ok(self.hear_bytes(bytes, now)?)
     }
 
-    /// The same. Only want of memory refuses it.
+    /// What [`hear`](Agent::hear) does. Fails only if out of memory.
     fn hear_bytes(&mut self, bytes: &[u8], now: u64) -> Result<Heard, AllocError>
         requires { now ≤ LATEST_MOMENT }
         ensures ok { IfOk result (λ heard. HeardAs W.next_word now bytes.now self.old self.new (Ok heard)) }
@@ -80,8 +84,8 @@ impl<W: Words + Drop> Agent<W> {
         }
     }
 
-    /// Hears bytes that spell no datagram, at a moment that isn't below the last one. Where memory ran out while they were
-    /// read, they aren't noise.
+    /// Hears bytes that could not be decoded, at a moment that isn't below the last one. Fails if that was for memory: then they aren't
+    /// noise.
     fn hear_noise(&mut self, fault: DecodeFault, moment: u64) -> Result<Heard, AllocError>
         requires here { is_gone self.old.state ≡ false }
         requires later { self.old.last ≤ moment }
@@ -97,7 +101,7 @@ impl<W: Words + Drop> Agent<W> {
         Ok(self.ignore(moment, cause))
     }
 
-    /// The entry of bytes that were ignored as noise, with what is answered.
+    /// The answer and the entry of bytes that were ignored as noise.
     fn note_noise(&self, moment: u64, heard: Heard) -> Noted<Heard>
         requires { heard.arms ≡ [] }
         ensures entry { result.entry ≡ entry_by self.now moment Input.Noise heard }
@@ -117,7 +121,7 @@ impl<W: Words + Drop> Agent<W> {
         )
     }
 
-    /// Hears a datagram at a moment that isn't below the last one, and notes the entry.
+    /// Hears a datagram at a moment that isn't below the last one, and makes the entry.
     fn hear_datagram_noted(
         &mut self,
         datagram: Datagram,
@@ -189,8 +193,8 @@ impl<W: Words + Drop> Agent<W> {
         }
     }
 
-    /// Accepts a datagram with these names, once the store has room for them. Their pages have slots there, since they have them
-    /// in the page table.
+    /// Makes room in the store for these names, and accepts the datagram. Their pages find slots in the store, since they do in the page
+    /// table.
     fn accept(
         &mut self,
         datagram: Datagram,
@@ -217,7 +221,7 @@ impl<W: Words + Drop> Agent<W> {
         }
     }
 
-    /// Accepts a datagram with these names, for which the store has room.
+    /// Accepts a datagram with these names. The store has room for them.
     #[tactic(auto, using(crate::proofs::Taken::may_carry))]
     fn accept_ready(
         &mut self,
@@ -247,7 +251,7 @@ impl<W: Words + Drop> Agent<W> {
         }
     }
 
-    /// A datagram is ignored, and no timer is set.
+    /// Ignores a datagram: no timer is set.
     fn ignore_heard(&mut self, moment: u64, cause: Cause) -> Hearing
         requires { moment ≤ LATEST_MOMENT }
         ensures new { self.new ≡ record self.old { last = moment } }
@@ -260,7 +264,7 @@ impl<W: Words + Drop> Agent<W> {
         }
     }
 
-    /// From this moment on nothing else is changed: the input is ignored. It takes no memory.
+    /// Ignores the input: only the last moment changes. Takes no memory.
     fn ignore(&mut self, moment: u64, cause: Cause) -> Heard
         requires { moment ≤ LATEST_MOMENT }
         ensures new { self.new ≡ record self.old { last = moment } }
@@ -274,7 +278,7 @@ impl<W: Words + Drop> Agent<W> {
     }
 }
 
-/// The cause to ignore bytes with this fault. Where memory ran out while they were read, there is none.
+/// The cause to ignore bytes with this fault. Fails if memory ran out while they were decoded.
 fn noise_cause(fault: DecodeFault) -> Result<Cause, AllocError>
     ensures value { IfOk result (λ cause. cause ≡ Cause.Decode fault) }
     ensures other { OnOk result (fault ≢ Memory) }

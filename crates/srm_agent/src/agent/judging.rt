@@ -22,7 +22,7 @@ use srm_names::{Drawop, Member, Name, Stream};
 use srm_store::{row_number, same_drawop};
 use srm_timers::Words;
 
-/// What was found of a datagram: for each cause whether it holds.
+/// Which causes to ignore a datagram hold.
 #[derive(Clone, Copy)]
 struct Findings {
     own: bool,
@@ -55,7 +55,7 @@ impl Findings {
 }
 
 impl<W: Words + Drop> Agent<W> {
-    /// The first cause to ignore a datagram with these names, where the member isn't gone. `None` where it is accepted.
+    /// The first cause to ignore a datagram with these names, for a member that isn't gone; `None` if it accepts the datagram.
     pub(super) fn cause_to_ignore(&self, datagram: &Datagram, names: &[Name]) -> Option<Cause>
         requires here { is_gone self.now.state ≡ false }
         requires names { names.now ≡ names_in datagram.now }
@@ -87,7 +87,7 @@ impl<W: Words + Drop> Agent<W> {
         members <= datagram.sender().number() || has_stranger(names, members)
     }
 
-    /// Whether it names what can't be, or is a farewell that says less than is known.
+    /// Whether the datagram names what can't be, or is a farewell that says less than is known.
     fn is_beyond_final(&self, datagram: &Datagram, names: &[Name]) -> bool
         ensures { (c : AConfig) (made : ℕ) (past : List AnEntry) → AgentFits c made past self.now → result ≡ list_any (is_beyond c.me past) names.now || says_too_little past datagram.now }
     {
@@ -106,7 +106,7 @@ impl<W: Words + Drop> Agent<W> {
         false
     }
 
-    /// Whether a name is above the last of a source that left, or one of this member's own above what it drew.
+    /// Whether a name is above the last of a source that left, or is this member's own and above what it drew.
     fn is_beyond(&self, name: Name) -> bool
         ensures { (c : AConfig) (made : ℕ) (past : List AnEntry) → AgentFits c made past self.now → result ≡ is_beyond c.me past name }
     {
@@ -128,7 +128,7 @@ impl<W: Words + Drop> Agent<W> {
         name.source() == self.config.me() && self.store.known(name.stream()) < name.number()
     }
 
-    /// Whether it is a farewell that says less than is known of its sender.
+    /// Whether the datagram is a farewell that says less than is known of its sender.
     fn is_short(&self, datagram: &Datagram) -> bool
         ensures { (c : AConfig) (made : ℕ) (past : List AnEntry) → AgentFits c made past self.now → result ≡ says_too_little past datagram.now }
     {
@@ -168,7 +168,7 @@ impl<W: Words + Drop> Agent<W> {
         row_number(rows, *stream) < known
     }
 
-    /// Whether it brings a drawop under a name that is held with another stamp or body.
+    /// Whether the datagram brings a drawop under a name that is held with another stamp or body.
     fn conflicts(&self, datagram: &Datagram) -> bool
         ensures { (c : AConfig) (made : ℕ) (past : List AnEntry) → AgentFits c made past self.now → result ≡ list_any (λ d. differs d (held_at past d.name)) (drawops_in (Some datagram.now)) }
     {

@@ -12,10 +12,11 @@ use srm_timers::Words;
 use std::alloc::AllocError;
 
 impl<W: Words + Drop> Agent<W> {
-    /// Begins to leave: draws are refused from now on, and the tick at which no new data waits sends a farewell.
+    /// Begins to leave, and returns the entry. From now on draws fail, and the first tick that leaves no new data waiting sends the
+    /// farewell. Moments are microseconds, at most 2^48.
     ///
-    /// Refused are, in this order: [`AgentFault::Gone`], [`AgentFault::Leaving`]. Want of memory, for which the answer has a place,
-    /// today never comes.
+    /// The answer is the first of these faults that holds: [`AgentFault::Gone`], [`AgentFault::Leaving`]. Such a call has an entry, and
+    /// changes nothing. `AllocError` never comes today: the call takes no memory.
     pub fn leave_noted(&mut self, now: u64) -> Result<Noted<()>, AllocError>
         requires { now ≤ LATEST_MOMENT }
         ensures ok { IfOk result (λ noted. Enters W.next_word (Some now) Input.AskedLeave self.old self.new noted.entry) }
@@ -28,7 +29,8 @@ impl<W: Words + Drop> Agent<W> {
         Ok(self.noted(moment, Input::AskedLeave, answer))
     }
 
-    /// [`leave_noted`](Agent::leave_noted) without its entry, which isn't made. It takes no memory.
+    /// Begins to leave: [`leave_noted`](Agent::leave_noted) without the entry. Its faults are the same: it never fails for memory, and
+    /// takes none.
     pub fn leave(&mut self, now: u64) -> Result<(), AgentFault>
         requires { now ≤ LATEST_MOMENT }
         ensures { HasEntry W.next_word (Some now) Input.AskedLeave (λ _ _. Unit {0}) self.old self.new result }
@@ -37,7 +39,7 @@ impl<W: Words + Drop> Agent<W> {
         self.leave_at(moment)
     }
 
-    /// Begins to leave at a moment that isn't below the last one. It takes no memory.
+    /// Begins to leave at a moment that isn't below the last one. Takes no memory.
     fn leave_at(&mut self, moment: u64) -> Result<(), AgentFault>
         requires later { self.old.last ≤ moment }
         requires moment { moment ≤ LATEST_MOMENT }
@@ -53,7 +55,7 @@ impl<W: Words + Drop> Agent<W> {
         }
     }
 
-    /// From this moment on the member is leaving.
+    /// Makes the member leave from this moment on.
     fn begin_to_leave(&mut self, moment: u64)
         requires { moment ≤ LATEST_MOMENT }
         ensures { self.new ≡ record self.old { state = Leaving; last = moment } }

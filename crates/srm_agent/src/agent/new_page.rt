@@ -12,9 +12,11 @@ use srm_names::{Member, PAGES, Page};
 use srm_timers::Words;
 
 impl<W: Words + Drop> Agent<W> {
-    /// The name of the next page of this member: its number is one more than the greatest that a page of this member has in
-    /// the table, and 0 where there is none. `None` where the table is full, or the number would pass 65,535. It takes no
-    /// memory and changes nothing: a page enters the table when it is drawn on or shown.
+    /// Returns the name of this member's next page: its number is one more than the greatest of this member's pages that have slots, and
+    /// 0 if none has.
+    ///
+    /// `None` if no slot is free, or the number would pass 65,535. Takes no memory and changes nothing: a page gets its slot when it is
+    /// drawn on or shown.
     pub fn new_page(&self) -> Option<Page>
         ensures { (c : AConfig) (made : ℕ) (past : List AnEntry) → AgentFits c made past self.now → result ≡ page_to_come c past }
     {
@@ -27,7 +29,7 @@ impl<W: Words + Drop> Agent<W> {
     }
 }
 
-/// One more than the greatest number of a page of this creator, and 0 where there is none.
+/// One more than the greatest number of a page of this creator, and 0 if there is none.
 fn next_number(pages: &[Page], creator: &Member) -> u32
     ensures { result ≡ next_number creator.now pages.now }
 {
@@ -38,7 +40,7 @@ fn next_number(pages: &[Page], creator: &Member) -> u32
     next
 }
 
-/// The greater of a number and one more than the number of a page, where that is of this creator.
+/// The greater of a number and one more than the number of a page, if that is of this creator.
 fn greatest_after(next: u32, page: &Page, creator: &Member) -> u32
     ensures { result ≡ max next (if page.now.creator == creator.now then page.now.number + 1 else 0) }
 {

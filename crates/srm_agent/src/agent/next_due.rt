@@ -16,10 +16,11 @@ use srm_deadlines::lesser;
 use srm_timers::Words;
 
 impl<W: Words + Drop> Agent<W> {
-    /// The least moment, in microseconds, from the last one that counted on, at which a tick hands out or sends something: a
-    /// timer runs out, the rate lets something go that waits, a session message is due, or the farewell of a member that is
-    /// leaving and has sent all that it drew, which is due at once. It may be past 2^48, the greatest moment that calls take: then no
-    /// tick comes to it. `None` where this member is gone. It takes no memory and changes nothing.
+    /// Returns the first moment, in microseconds, at which a tick requests, repairs or sends something: a timer expires, the rate lets an
+    /// item go that waits, or a session message is due. The farewell of a leaving member that has sent all that it drew is due at once.
+    ///
+    /// The moment isn't before the last one that counted. It may be past 2^48, the greatest that calls take: then no tick reaches it.
+    /// `None` if this member is gone. Takes no memory and changes nothing.
     #[tactic(auto, using(crate::proofs::NextDue::never_due, crate::proofs::NextDue::first_due))]
     pub fn next_due(&self) -> Option<u64>
         ensures { NextDue self.now result }
@@ -30,7 +31,7 @@ impl<W: Words + Drop> Agent<W> {
         Some(self.last.max(self.next_at()))
     }
 
-    /// Whether a tick at a moment, in microseconds, has nothing to do, where this member isn't gone.
+    /// Whether a tick at a moment, in microseconds, has nothing to do, for a member that isn't gone.
     #[tactic(auto, using(crate::proofs::NextDue::early, crate::proofs::NextDue::late))]
     pub(super) fn is_early(&self, moment: u64) -> bool
         ensures early { OnTrue result (IsEarly self.now moment) }
@@ -39,7 +40,7 @@ impl<W: Words + Drop> Agent<W> {
         moment < self.next_at()
     }
 
-    /// When something is next due, where this member isn't gone. It may be past.
+    /// When something is next due, for a member that isn't gone. It may be past.
     #[tactic(auto, using(crate::proofs::NextDue::soonest))]
     fn next_at(&self) -> u64
         ensures { IsNextAt self.now result }
@@ -48,7 +49,7 @@ impl<W: Words + Drop> Agent<W> {
         sooner(first, self.next_session_message())
     }
 
-    /// When the first timer runs out.
+    /// When the first timer expires.
     fn next_timer(&self) -> Option<u64>
         ensures { TimersNext self.now.timers result }
     {
@@ -62,7 +63,7 @@ impl<W: Words + Drop> Agent<W> {
         self.bucket.wait_until()
     }
 
-    /// From when on a tick ends with a session message or a farewell, if nothing is drawn or heard before.
+    /// From when on a tick ends with a session message or a farewell, if nothing else happens before.
     fn next_session_message(&self) -> u64
         ensures { result ≡ session_message_next self.now }
     {
@@ -80,7 +81,7 @@ impl<W: Words + Drop> Agent<W> {
     }
 }
 
-/// The sooner of two moments, the first of which may be none.
+/// The sooner of two moments; the second, if there is no first.
 fn sooner(first: Option<u64>, second: u64) -> u64
     ensures { result ≡ sooner_of first second }
 {

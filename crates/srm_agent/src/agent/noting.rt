@@ -12,14 +12,14 @@ use srm_names::{Items, Member};
 use srm_timers::Arm;
 use std::alloc::{AllocError, Global};
 
-/// What hearing answers, and the timers that it set once more, for the entry, where that is noted.
+/// What hearing returns, and a copy of the timers that it set for the entry, if that is noted.
 #[derive(Drop)]
 pub(super) struct Hearing {
     pub heard: Heard,
     pub noted: Items<Arm>,
 }
 
-/// What is answered, and the entry of it. It takes no memory.
+/// The answer of a hearing, and its entry. Takes no memory.
 pub(super) fn note(
     alloc: Global,
     me: Member,
@@ -63,7 +63,7 @@ fn verdict_by(outcome: Outcome) -> Verdict
     }
 }
 
-/// What hearing a datagram that was accepted did, with these timers, and these once more.
+/// What hearing an accepted datagram did, with its timers and a copy of them.
 pub(super) fn accepted(arms: Vec<Arm>, copies: Vec<Arm>) -> Hearing
     ensures heard { result.heard ≡ record { arms = arms.items; outcome = Taken } }
     ensures noted { result.noted ≡ copies.items }
@@ -77,7 +77,7 @@ pub(super) fn accepted(arms: Vec<Arm>, copies: Vec<Arm>) -> Hearing
     }
 }
 
-/// Room for so many timers once more, where they are noted. Only want of memory refuses it.
+/// Room for a copy of so many timers, if they are noted. Fails only if out of memory.
 pub(super) fn room_to_note(alloc: Global, notes: bool, count: usize) -> Result<Vec<Arm>, AllocError>
     ensures empty { IfOk result (λ copies. copies.items ≡ []) }
     ensures room { IfOk result (λ copies. notes ≡ true → count ≤ vec_capacity copies) }
@@ -89,7 +89,7 @@ pub(super) fn room_to_note(alloc: Global, notes: bool, count: usize) -> Result<V
     }
 }
 
-/// Timers once more, where they are noted. It takes no memory.
+/// Copies timers, if they are noted. Takes no memory.
 pub(super) fn note_arms(copies: &mut Vec<Arm>, notes: bool, arms: &[Arm])
     requires empty { copies.old.items ≡ [] }
     requires room { notes ≡ true → length arms.now ≤ vec_capacity copies.old }

@@ -19,8 +19,8 @@ use std::alloc::AllocError;
 use std::collections::VecDeque;
 
 impl<W: Words + Drop> Agent<W> {
-    /// Makes room for so many requests and repairs, for all that may go after them, and for the message that ends the tick. Only want of
-    /// memory refuses it; nothing that waits changes.
+    /// Makes room for so many requests and repairs, for all that may go after them, and for the message that ends the tick. What waits
+    /// stays. Fails only if out of memory.
     pub(super) fn room_to_go(&mut self, due_items: usize) -> Result<Went, AllocError>
         ensures rest { self.new ≡ record self.old { bucket = self.new.bucket } }
         ensures bucket { BucketStays self.old.bucket self.new.bucket }
@@ -35,7 +35,7 @@ impl<W: Words + Drop> Agent<W> {
         Ok(went)
     }
 
-    /// Hands in requests and repairs, and lets go what may go at a moment. It takes no memory.
+    /// Adds requests and repairs to the bucket, and lets go what may go at a moment. Takes no memory.
     pub(super) fn send(&mut self, due_items: VecDeque<DueItem>, went: Went, moment: u64) -> Went
         requires moment { moment ≤ LATEST_MOMENT }
         requires empty { NothingWent went }
@@ -51,7 +51,7 @@ impl<W: Words + Drop> Agent<W> {
         let_go(&mut self.bucket, moment, went)
     }
 
-    /// Ends a tick: a member that is leaving is gone once no data of its own waits. Answers what goes at last, under no rate.
+    /// Ends a tick: a leaving member is gone once no new data waits. Returns the message that goes last, which the rate doesn't limit.
     pub(super) fn end(
         &mut self,
         farewell: Option<DueSessionMessage>,
@@ -75,7 +75,7 @@ impl<W: Words + Drop> Agent<W> {
     }
 }
 
-/// What went, with what a tick ends with. It takes no memory.
+/// What went, with the message that ends the tick. Takes no memory.
 pub(super) fn with_last(mut went: Went, last: Option<DueSessionMessage>) -> Went
     requires { 0 < went.room }
     ensures outs { result.outs ≡ went.outs ++ option_to_list (option_map (λ r. r.outgoing.out) last) }
@@ -87,7 +87,7 @@ pub(super) fn with_last(mut went: Went, last: Option<DueSessionMessage>) -> Went
     went
 }
 
-/// What a tick ends with, by whether data of the member's own waits.
+/// The message that ends a tick: no farewell goes while new data waits.
 fn session_message_at_end(
     waits: bool,
     farewell: Option<DueSessionMessage>,
@@ -98,8 +98,8 @@ fn session_message_at_end(
     if waits { message } else { farewell.or(message) }
 }
 
-/// How many datagrams go in a tick at most, with so many requests and repairs and the message that ends it; `None` where that is more than is
-/// counted.
+/// How many datagrams go in a tick at most, with so many requests and repairs and the message that ends it; `None` if the count would
+/// overflow.
 fn most_to_go(bucket: &Bucket<Outgoing>, due_items: usize) -> Option<usize>
     ensures { IfSome result (λ count. count ≡ count_of bucket.now.waiting + due_items + 1) }
 {

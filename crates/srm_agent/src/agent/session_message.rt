@@ -24,20 +24,19 @@ use srm_outbox::Outgoing;
 use srm_timers::Words;
 use std::alloc::{AllocError, Global};
 
-/// No datagram has more bytes: as many rows and echoes as it may have.
+/// The longest datagram in bytes, with as many rows and echoes as it may have.
 const LONGEST_SESSION_MESSAGE: usize = HEAD_BYTES
     + SESSION_MESSAGE_BYTES
     + LONGEST_LIST as usize * (NAME_BYTES + ECHO_BYTES);
 
-/// No interval is longer, in microseconds: that of 32 members at one byte a second.
+/// The longest interval in microseconds: that of 32 members at one byte a second.
 pub const LONGEST_INTERVAL: u64 = SESSION_SHARE
     * MEMBERS as u64
     * LONGEST_SESSION_MESSAGE as u64
     * SECOND;
 
 impl<W: Words + Drop> Agent<W> {
-    /// The session message, or the farewell, that this member sends at a moment, in microseconds. Only want of memory
-    /// refuses it.
+    /// The session message or the farewell that this member sends at a moment, in microseconds. Fails only if out of memory.
     pub(super) fn session_message(
         &self,
         farewell: bool,
@@ -50,7 +49,7 @@ impl<W: Words + Drop> Agent<W> {
         Outgoing::new(self.alloc, self.config.session(), message)
     }
 
-    /// The same, not yet spelled.
+    /// The same message, not yet encoded.
     fn message(&self, farewell: bool, moment: u64) -> Result<Datagram, AllocError>
         requires { moment ≤ LATEST_MOMENT }
         ensures { IfOk result (λ message. IsSessionMessageOf self.now moment farewell message) }
@@ -68,7 +67,7 @@ impl<W: Words + Drop> Agent<W> {
         ))
     }
 
-    /// Does nothing. By their types this member and the page that it shows are ones that a datagram can name.
+    /// Does nothing. Its contract says that a datagram can name this member and the page that it shows.
     fn is_in_range(&self)
         ensures me { self.now.config.me < MEMBERS }
         ensures showing { is_page self.now.showing }
@@ -86,7 +85,7 @@ impl<W: Words + Drop> Agent<W> {
         self.distances.echoes(self.alloc, moment)
     }
 
-    /// The rows of the page shown, or in a farewell of all that this member drew.
+    /// The rows of the page shown; in a farewell, those of all that this member drew.
     #[tactic(auto, using(crate::proofs::Rows::rows_of_page, crate::proofs::Rows::rows_of_own))]
     fn rows(&self, farewell: bool) -> Result<Vec<Name>, AllocError>
         ensures { IfOk result (λ rows. AreDueRows self.now farewell rows.items) }
@@ -97,7 +96,7 @@ impl<W: Words + Drop> Agent<W> {
         self.rows_of(&self.streams_shown()?)
     }
 
-    /// The streams of the page shown, in order.
+    /// The streams of the page shown, in order, one for each member of the roster.
     fn streams_shown(&self) -> Result<Vec<Stream>, AllocError>
         ensures { IfOk result (λ streams. AreShown self.now streams.items) }
     {
@@ -119,7 +118,7 @@ impl<W: Words + Drop> Agent<W> {
         own(self.alloc, self.config.me(), &pages)
     }
 
-    /// The pages of the table, in order.
+    /// The pages that have slots, in order.
     fn pages_in_order(&self) -> Result<Vec<Page>, AllocError>
         ensures { IfOk result (λ pages. AreInOrder self.now.pages pages.items) }
     {
@@ -128,7 +127,7 @@ impl<W: Words + Drop> Agent<W> {
         Ok(pages)
     }
 
-    /// The rows of streams, in their order: for each of which something is known the greatest number.
+    /// The rows of streams, in their order: the greatest number known of each, unless nothing is.
     fn rows_of(&self, streams: &[Stream]) -> Result<Vec<Name>, AllocError>
         ensures { IfOk result (λ rows. AreRowsOf self.now streams.now rows.items) }
     {
@@ -194,7 +193,7 @@ impl<W: Words + Drop> Agent<W> {
     }
 }
 
-/// The interval after so many bytes, where so many members are left, at a rate in bytes a second. Rounded down.
+/// The interval after a session message of so many bytes, with so many members left, at a rate in bytes a second. Rounded down.
 fn interval_after(members: u8, bytes: usize, rate: u32) -> u64
     requires members { members ≤ MEMBERS }
     requires bytes { bytes ≤ LONGEST_SESSION_MESSAGE }
@@ -219,7 +218,7 @@ fn own(alloc: Global, source: Member, pages: &[Page]) -> Result<Vec<Stream>, All
         .collect(alloc)
 }
 
-/// The name of this number in a stream, and none for 0.
+/// The name of this number in a stream, and `None` for 0.
 #[tactic(auto, using(crate::proofs::Rows::row_is))]
 fn numbered(stream: &Stream, known: u32) -> Option<Name>
     requires { known ≤ DRAWOPS }

@@ -13,10 +13,10 @@ use srm_timers::Words;
 use std::alloc::AllocError;
 
 impl<W: Words + Drop> Agent<W> {
-    /// Shows a page. A page that isn't in the table is added to it.
+    /// Shows a page, and returns the entry. A page without a slot takes a free one. Moments are microseconds, at most 2^48.
     ///
-    /// Refused are, in this order: [`AgentFault::Gone`]; [`AgentFault::PageLimit`] where the page finds no slot;
-    /// [`AgentFault::Memory`], which today never comes.
+    /// The answer is the first of these faults that holds: [`AgentFault::Gone`]; [`AgentFault::PageLimit`] if the page has no slot and
+    /// none is free. Such a call has an entry, and changes nothing. `AllocError` never comes today: the call takes no memory.
     pub fn show_noted(&mut self, page: Page, now: u64) -> Result<Noted<()>, AllocError>
         requires { now ≤ LATEST_MOMENT }
         ensures ok { IfOk result (λ noted. Enters W.next_word (Some now) (Input.Showed page) self.old self.new noted.entry) }
@@ -29,7 +29,8 @@ impl<W: Words + Drop> Agent<W> {
         Ok(self.noted(moment, Input::Showed(page), answer))
     }
 
-    /// [`show_noted`](Agent::show_noted) without its entry, which isn't made.
+    /// Shows a page: [`show_noted`](Agent::show_noted) without the entry. Its faults are the same. [`AgentFault::Memory`], which the
+    /// contract allows, never comes today.
     pub fn show(&mut self, page: Page, now: u64) -> Result<(), AgentFault>
         requires { now ≤ LATEST_MOMENT }
         ensures { Does W.next_word (Some now) (Input.Showed page) (λ _ _. Unit {0}) self.old self.new result }
@@ -54,7 +55,7 @@ impl<W: Words + Drop> Agent<W> {
         Ok(())
     }
 
-    /// From this moment on a page is in the table, and shown.
+    /// Shows a page from this moment on, and gives it a slot.
     fn turn_to(&mut self, page: &Page, moment: u64)
         requires room { table_lacks_room self.old.pages page.now ≡ false }
         requires moment { moment ≤ LATEST_MOMENT }

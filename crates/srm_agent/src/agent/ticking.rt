@@ -1,4 +1,4 @@
-//! What a member does when a moment has come.
+//! Ticks: what a member does when a moment has come.
 
 ghost use Rattle.std.specs.Prelude.{◌≡◌, ◌≤◌, Some, Ok, IfOk, OnErr, true, false, max};
 ghost use Rattle.srm_names.specs.declared.limits.TheConstants.{LATEST_MOMENT};
@@ -20,8 +20,7 @@ use srm_outbox::let_time_pass;
 use srm_timers::{Arm, Words};
 use std::alloc::{AllocError, Global};
 
-/// What a tick answers, with the timers that it set and the datagrams that it sent once more, for the entry. The timers are there
-/// where it is noted.
+/// What a tick returns, with copies for the entry of the datagrams that it sent, and of the timers that it set, if these are noted.
 #[derive(Drop)]
 struct Acted {
     ticked: Ticked,
@@ -30,10 +29,11 @@ struct Acted {
 }
 
 impl<W: Words + Drop> Agent<W> {
-    /// A moment has come: what is due is asked for and repaired, what the rate lets go is sent, and at the end a session message
-    /// where one is due, or the farewell of a member that is leaving and has sent all that it drew. Nothing where it is gone.
+    /// Does what is due at a moment, in microseconds, at most 2^48, and returns it with the entry. It requests and repairs the names
+    /// whose timers have expired, and sends what the rate lets go. Last it sends a session message if one is due, or the farewell of a
+    /// leaving member that has sent all that it drew. A gone member does nothing.
     ///
-    /// Refused is [`AgentFault::Memory`] alone, and not where nothing is due.
+    /// Fails only if out of memory: then nothing has changed, and there is no entry. A tick with nothing due can't fail.
     #[tactic(auto, using(crate::proofs::NextDue::stirs, crate::proofs::NextDue::stirs_at))]
     pub fn tick_noted(&mut self, now: u64) -> Result<Noted<Ticked>, AllocError>
         requires { now ≤ LATEST_MOMENT }
@@ -56,7 +56,9 @@ impl<W: Words + Drop> Agent<W> {
         Ok(note(me, moment, handed_out, acted))
     }
 
-    /// [`tick_noted`](Agent::tick_noted) without its entry, which isn't made.
+    /// Does what is due at a moment, in microseconds, at most 2^48, and returns it: [`tick_noted`](Agent::tick_noted) without the entry.
+    ///
+    /// Fails only with [`AgentFault::Memory`], and then nothing has changed. A tick with nothing due can't fail.
     #[tactic(auto, using(crate::proofs::Entering::tick_allowed, crate::proofs::Passing::tick_enters))]
     pub fn tick(&mut self, now: u64) -> Result<Ticked, AgentFault>
         requires { now ≤ LATEST_MOMENT }
@@ -66,7 +68,7 @@ impl<W: Words + Drop> Agent<W> {
         Ok(self.tick_alone(now)?)
     }
 
-    /// The same. Only want of memory refuses it.
+    /// What [`tick`](Agent::tick) does. Fails only if out of memory.
     #[tactic(auto, using(crate::proofs::NextDue::stirs, crate::proofs::NextDue::stirs_at, crate::proofs::Passing::ticks_at))]
     fn tick_alone(&mut self, now: u64) -> Result<Ticked, AllocError>
         requires { now ≤ LATEST_MOMENT }
@@ -85,7 +87,7 @@ impl<W: Words + Drop> Agent<W> {
         Ok(self.act(due, false, moment)?.ticked)
     }
 
-    /// The tick of a member for which nothing is due: only time has passed, also for the rate. It takes no memory.
+    /// A tick with nothing due: only time has passed, also for the rate. Takes no memory.
     fn wait(&mut self, moment: u64) -> Ticked
         requires here { is_gone self.old.state ≡ false }
         requires later { self.old.last ≤ moment }
@@ -98,7 +100,7 @@ impl<W: Words + Drop> Agent<W> {
         self.rest(moment)
     }
 
-    /// A tick that does nothing: nothing but the last moment changes. It takes no memory.
+    /// A tick that does nothing: only the last moment changes. Takes no memory.
     fn rest(&mut self, moment: u64) -> Ticked
         requires { moment ≤ LATEST_MOMENT }
         ensures new { self.new ≡ record self.old { last = moment } }
@@ -115,7 +117,7 @@ impl<W: Words + Drop> Agent<W> {
         }
     }
 
-    /// Does what is due. Only want of memory refuses it.
+    /// Does what is due. Fails only if out of memory.
     fn act(&mut self, due: Due, notes: bool, moment: u64) -> Result<Acted, AllocError>
         requires here { is_gone self.old.state ≡ false }
         requires later { self.old.last ≤ moment }
@@ -153,7 +155,7 @@ impl<W: Words + Drop> Agent<W> {
     }
 }
 
-/// What is answered, and the entry of it, where nothing was handed out or sent. It takes no memory.
+/// The answer and the entry of a tick that requested, repaired and sent nothing. Takes no memory.
 fn note_idle(alloc: Global, me: Member, moment: u64, ticked: Ticked) -> Noted<Ticked>
     requires { IsIdle ticked }
     ensures entry { result.entry ≡ ticked_with me moment ticked }
@@ -171,7 +173,7 @@ fn note_idle(alloc: Global, me: Member, moment: u64, ticked: Ticked) -> Noted<Ti
     note(me, moment, handed_out, acted)
 }
 
-/// What is answered, and the entry of it, with what was handed out once more. It takes no memory.
+/// The answer and the entry of a tick, with a copy of the names that it requested and repaired. Takes no memory.
 fn note(me: Member, moment: u64, handed_out: HandedOut, acted: Acted) -> Noted<Ticked>
     requires asks { handed_out.asks ≡ acted.ticked.asks }
     requires fixes { handed_out.fixes ≡ acted.ticked.fixes }

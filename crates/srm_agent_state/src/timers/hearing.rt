@@ -14,7 +14,7 @@ use srm_timers::{Arm, Words};
 use std::alloc::AllocError;
 
 impl Timers {
-    /// Makes room for a session message by which these names become missing. No timer changes, and only want of memory refuses it.
+    /// Makes room: afterwards [`hear_rows`](Timers::hear_rows) of these names succeeds. No timer changes. Fails only if out of memory.
     #[tactic(auto, using(crate::proofs::Midway::asks_stay, crate::proofs::Midway::asks_keep))]
     pub fn room_for_rows(&mut self, newly_missing: &[Name]) -> Result<(), AllocError>
         ensures kept { TimersStay self.old self.new }
@@ -24,8 +24,10 @@ impl Timers {
         self.asks.room(newly_missing)
     }
 
-    /// A session message was heard, by which these names, which rise, become missing: their request timers are set. Only
-    /// want of memory refuses it, and not after [`room_for_rows`](Timers::room_for_rows) of them.
+    /// Notes a session message. It makes `newly_missing`, which rise, missing: sets a request timer for each, and returns the timers.
+    /// Consumes one random number for each.
+    ///
+    /// Fails only if out of memory, and not after [`room_for_rows`](Timers::room_for_rows) of these names.
     #[tactic(auto, using(crate::proofs::Missing::rows_hear))]
     pub fn hear_rows<W: Words>(
         &mut self,
@@ -48,8 +50,12 @@ impl Timers {
         self.detect(newly_missing, &[], dist, now, words)
     }
 
-    /// A name's drawop was heard, as data or as a repair, by which these names of its stream, which rise, become missing. A repair
-    /// ends the name's repair timer, and holds the name off. Only want of memory refuses it.
+    /// Notes that the drawop of a name was heard, as data or as a repair. It makes `newly_missing`, which rise, missing: sets a request timer
+    /// for each, and returns the timers. Consumes one random number for each.
+    ///
+    /// The request timer of `name` is gone. A repair also cancels the name's repair timer, and holds the name off.
+    ///
+    /// Fails only if out of memory.
     #[tactic(auto, using(crate::proofs::Midway::keep_on, crate::proofs::Midway::stay_on, crate::proofs::Midway::waits_before, crate::proofs::Midway::placed_if))]
     pub fn hear_drawop<W: Words>(
         &mut self,
@@ -77,7 +83,7 @@ impl Timers {
         Ok(arms)
     }
 
-    /// A name is held from now on: its request timer is gone. Takes no memory.
+    /// Notes that a name is held: its request timer is gone. Takes no memory.
     #[tactic(auto, using(crate::proofs::Midway::asks_keep))]
     fn gain(&mut self, name: Name)
         ensures asks { AskAdds (Gained name ∷ []) self.old.asks self.new.asks }
@@ -87,7 +93,7 @@ impl Timers {
         self.asks.gained(name);
     }
 
-    /// Makes room for a repair of a name, if it is one. No timer changes.
+    /// Makes room for a repair of a name, if the drawop came by one. No timer changes. Fails only if out of memory.
     #[tactic(auto, using(crate::proofs::Midway::fixes_stay, crate::proofs::Midway::fixes_keep, crate::proofs::Midway::all_stays, crate::proofs::Midway::fixes_same, crate::proofs::Midway::settings_same))]
     fn drawop_room(&mut self, name: Name, repaired: bool) -> Result<(), AllocError>
         ensures kept { TimersStay self.old self.new }
@@ -103,7 +109,7 @@ impl Timers {
         }
     }
 
-    /// A drawop of a name was heard. If it was a repair, the name's repair timer is gone, and it is held off. Takes no memory.
+    /// If the drawop of a name came by a repair, cancels the name's repair timer, and holds the name off. Takes no memory.
     #[tactic(auto, using(crate::proofs::Midway::fixes_keep, crate::proofs::Midway::settings_same))]
     fn end_repair(&mut self, name: Name, repaired: bool, dist: &[u64], now: u64)
         requires place { repaired ≡ true → FixPlace self.old.fixes name }

@@ -15,10 +15,15 @@ use srm_timers::{Arm, Words};
 use std::alloc::AllocError;
 
 impl Timers {
-    /// A request of a member for the names `asked` was heard, by which the names `newly_missing` of their stream, which rise, become
-    /// missing. The store is as it was before. Of the names that are asked for those that are held set repair timers, where
-    /// none runs and they aren't held off; those that are missing set their request timers again, one exponent higher, where
-    /// the request isn't ignored. Only want of memory refuses it.
+    /// Notes a member's request for the names `asked`. The request makes `newly_missing`, which rise, missing; `store` is as it was before.
+    /// Returns the timers that are set, and consumes one random number for each:
+    ///
+    /// - a repair timer for each of `asked` that is held, if none runs and the name isn't held off;
+    /// - the request timer of each of `asked` that is missing again, one exponent higher, unless its exponent isn't 0 and the request comes
+    ///   before its ignore moment;
+    /// - a request timer for each of `newly_missing`, with exponent 1 if it is among `asked`, else 0.
+    ///
+    /// Fails only if out of memory.
     pub fn hear_request<W: Words>(
         &mut self,
         store: &Store,
@@ -48,8 +53,8 @@ impl Timers {
         arms.extend_from_slice(&found).unwrap();
         Ok(arms)
     }
-    /// Makes room for a request for the names `asked`, by which `newly_missing` become missing: a list with room for its arms. No
-    /// timer changes.
+    /// Makes room for a request for the names `asked` that makes `newly_missing` missing, and returns a list with room for the timers that it
+    /// sets. No timer changes. Fails only if out of memory.
     #[tactic(auto, using(crate::proofs::Midway::asks_stay, crate::proofs::Midway::asks_keep))]
     fn request_room(
         &mut self,
@@ -80,7 +85,7 @@ impl Timers {
         self.fixes.note_asker(name, from);
     }
 
-    /// One name of a request that a member sent. Takes no memory.
+    /// Notes one name of a member's request, and returns the timer that it sets, if any. Takes no memory.
     fn hear_request_for<W: Words>(
         &mut self,
         is_held: bool,
@@ -107,7 +112,7 @@ impl Timers {
     }
 }
 
-/// Adds an arm, if there is one, to a list that has room for it.
+/// Adds a timer, if there is one, to a list that has room for it.
 fn add_arm(arms: &mut Vec<Arm>, arm: Option<Arm>)
     requires { vec_len arms.old < vec_capacity arms.old }
     ensures items { arms.new.items ≡ arms.old.items ++ option_to_list arm }

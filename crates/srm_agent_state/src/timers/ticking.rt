@@ -13,7 +13,7 @@ use srm_timers::{Arm, Words};
 use std::alloc::AllocError;
 
 impl Timers {
-    /// Makes room for repairs of these names. No timer changes.
+    /// Makes room for repairs of these names. No timer changes. Fails only if out of memory.
     #[tactic(auto, using(crate::proofs::Midway::fixes_stay, crate::proofs::Midway::fixes_keep))]
     fn room_to_repair(&mut self, names: &[Name]) -> Result<(), AllocError>
         ensures kept { TimersStay self.old self.new }
@@ -25,9 +25,11 @@ impl Timers {
         self.fixes.room_to_hold_off(names)
     }
 
-    /// The names whose request timers have run out are asked for now, and those whose repair timers have run out are repaired:
-    /// the request timers are set again, one exponent higher, and the repair timers are gone. These are their names, as
-    /// `asks_that_ran_out` and `fixes_that_ran_out` say, which aren't looked for again. Only want of memory refuses it.
+    /// Notes that a tick requests `asks` and repairs `fixes`: the names that [`asks_that_ran_out`](Timers::asks_that_ran_out) and
+    /// [`fixes_that_ran_out`](Timers::fixes_that_ran_out) return at `now`. Sets the request timers again, one exponent higher, and returns them.
+    /// The repair timers are gone, and their names held off. Consumes one random number for each timer that is set.
+    ///
+    /// Fails only if out of memory.
     #[tactic(auto, using(crate::proofs::Midway::asks_stay, crate::proofs::Midway::stay_on))]
     pub fn tick<W: Words>(
         &mut self,

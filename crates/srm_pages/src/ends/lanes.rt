@@ -4,7 +4,7 @@ use crate::feed::Feed;
 use crate::tap::Tap;
 use crate::viewer::Viewer;
 
-/// The ends of all lanes, and the viewers: the k-th feed and the k-th tap are those of the lane of slot k.
+/// The ends of all lanes, and the viewers. The k-th feed and the k-th tap are the ends of the lane of slot k.
 #[derive(Drop)]
 pub struct Lanes {
     pub feeds: Vec<Feed>,

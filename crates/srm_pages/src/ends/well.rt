@@ -1,4 +1,4 @@
-//! The reader's end of the well.
+//! The node's end of the stroke queue, which receives.
 
 ghost use Rattle.std.specs.Prelude.{◌≡◌, ◌+◌, [], ◌∷◌, ◌++◌, true, List, MatchOption};
 ghost use Rattle.srm_pages.specs.declared.stroke.Stroke.{Stroke};
@@ -14,8 +14,10 @@ use std::marker::Model;
 use std::sync::atomic::Ordering;
 use std::sync::{Arc, Wait};
 
-/// The reader's end of the well, with the pass that has what was received. Contracts see that list, how often it found none, and how often it had when
-/// its pens last said that they are done.
+/// The node's end of the stroke queue, which receives.
+///
+/// Contracts see what was received, how often it found none, how often it had when it last saw all producers done, which queue it is, and
+/// how many strokes that holds.
 #[derive(Drop)]
 pub struct Well {
     pub(crate) ink: Arc<Ink, Global>,
@@ -39,7 +41,9 @@ impl Model for Well {
 }
 
 impl Well {
-    /// Receives the front stroke. None comes only if the well was empty, and is counted; nothing else changed then.
+    /// Receives the front stroke. Takes no memory.
+    ///
+    /// Returns `None` only if the queue was empty, which is counted; nothing else has changed then.
     #[tactic(auto, using(crate::proofs::InkSteps::reads))]
     pub fn next<R: Wait>(&mut self, rt: &R) -> Option<Stroke>
         ensures { MatchOption result (self.new ≡ record self.old { nones = self.old.nones + 1 }) (λ x. self.new ≡ record self.old { received = self.old.received ++ x ∷ [] }) }
@@ -51,9 +55,11 @@ impl Well {
         front
     }
 
-    /// Puts a pen that is done beside the reader, and gives it back. What it sent is its part of what was received and then its part of
-    /// what the well still holds. So what was received of a pen is a prefix of what it sent, in order, with nothing lost or doubled.
-    /// The pen is one of this well. It neither waits nor takes memory, and changes nothing.
+    /// Compares a finished producer of this queue with what was received, and returns the producer. What it sent is its part of what was
+    /// received, and then of what the queue holds: so what was received of it is a prefix of what it sent, in order, with nothing lost or
+    /// doubled.
+    ///
+    /// It neither waits nor takes memory, and changes nothing.
     #[tactic(auto, using(crate::proofs::InkSteps::joins, crate::proofs::InkSteps::parts))]
     pub fn join_pen(&mut self, inked: Inked) -> Inked
         requires { inked.well ≡ self.old.well }
@@ -68,8 +74,10 @@ impl Well {
         Inked { pass, number }
     }
 
-    /// Whether all pens said that they are done. That they said so is a plain count, on which no contract rests; that the well was looked at is
-    /// noted, so that a caller can tell whether [`next`](Well::next) found none after it: a pen sends nothing once it is done.
+    /// Whether all producers have said that they are done. It notes this look for [`is_drained`](Well::is_drained). Costs one load.
+    ///
+    /// The producers say so by a plain count, on which no contract rests. A producer sends nothing once it is done: nothing follows once
+    /// [`next`](Well::next) finds none after a look that found all of them done.
     pub fn is_done(&mut self) -> bool
         ensures { self.new ≡ record self.old { done_at = looked_at result self.old.nones } }
     {
@@ -78,7 +86,7 @@ impl Well {
         done
     }
 
-    /// Whether none was found after the last look at the pens, by which all were done: then nothing more comes.
+    /// Whether the last look found all producers done and [`next`](Well::next) has found none since: no stroke follows then.
     pub fn is_drained(&self) -> bool
         ensures { result ≡ is_drained self.now }
     {
@@ -89,7 +97,7 @@ impl Well {
     }
 }
 
-// The count after one more None. It waits for ever where there is none: nobody asks so often.
+// The count after one more None. It waits for ever if that is past 2^64 - 1: nobody asks so often.
 fn next_count<R: Wait>(rt: &R, count: u64) -> u64
     ensures { result ≡ count + 1 }
 {
@@ -102,7 +110,7 @@ fn next_count<R: Wait>(rt: &R, count: u64) -> u64
     }
 }
 
-// What the reader learns of the pen beside it.
+// Shows the part of the producer whose pass is joined to the reader's.
 #[tactic(auto, using(crate::proofs::InkSteps::learns_part))]
 fn learn_part(queue: &StrokeQueue, pass: &mut InkPass)
     requires pass { IsPassOf queue.now pass.old }

@@ -21,7 +21,7 @@ use crossbeam_channel::bounded_with;
 use srm_names::{LANE_MESSAGES, PAGES};
 use std::alloc::{AllocError, Global};
 
-/// Makes the board and a lane for each slot, with as many viewers as asked for. Only want of memory refuses it.
+/// Makes the board, a lane for each of the eight page slots, and `viewers` viewers, at most 8. Fails only if out of memory.
 pub fn lanes(alloc: Global, viewers: u8) -> Result<ends::Lanes, AllocError>
     requires { viewers ≤ VIEWERS }
     ensures { IfOk result (λ l. AreLanes viewers l.feeds.items l.taps.items l.viewers.items) }
@@ -36,7 +36,7 @@ pub fn lanes(alloc: Global, viewers: u8) -> Result<ends::Lanes, AllocError>
     })
 }
 
-// As many viewers as asked for.
+// Makes `count` viewers.
 fn all_viewers(alloc: Global, dealer: &mut Dealer, count: u8) -> Result<Vec<Viewer>, AllocError>
     ensures dealer { OnOk result (dealer.new ≡ dealer.old) }
     ensures viewers { IfOk result (λ v. (vec_len v ≡ count) × All (λ s. s ≡ new_lookout dealer.old.board) v.items) }
@@ -50,7 +50,7 @@ fn all_viewers(alloc: Global, dealer: &mut Dealer, count: u8) -> Result<Vec<View
     Ok(viewers)
 }
 
-// The ends of all lanes. The dealer's seat becomes the last feed's.
+// Makes the ends of all lanes. The dealer's seat becomes the last feed's.
 fn all_lanes(alloc: Global, mut dealer: Dealer) -> Result<(Vec<Feed>, Vec<Tap>), AllocError>
     requires { dealer.next ≡ 0 }
     ensures { IfOk result (λ e. (vec_len e.0 ≡ PAGES) × (vec_len e.1 ≡ PAGES) × AreNewLanes dealer.board e.0.items e.1.items) }
@@ -67,7 +67,7 @@ fn all_lanes(alloc: Global, mut dealer: Dealer) -> Result<(Vec<Feed>, Vec<Tap>),
     Ok((feeds, taps))
 }
 
-// Makes the lane of the marker's slot, and puts its ends behind the others.
+// Adds the ends of the lane of the marker's slot behind the others.
 #[tactic(auto, using(crate::proofs::Dealing::lanes_more))]
 fn add_lane(
     alloc: Global,
@@ -86,7 +86,7 @@ fn add_lane(
     Ok(())
 }
 
-// The ends of the lane of the marker's slot.
+// Makes the ends of the lane of the marker's slot.
 fn lane(alloc: Global, marker: Marker, lookout: Lookout) -> Result<(Feed, Tap), AllocError>
     requires { (marker.seat ≡ zeros) × (lookout ≡ new_lookout marker.board) }
     ensures { IfOk result (λ e. AreNewEnds marker.board marker.slot e.0 e.1) }
@@ -111,7 +111,7 @@ fn lane(alloc: Global, marker: Marker, lookout: Lookout) -> Result<(Feed, Tap), 
     Ok((feed, tap))
 }
 
-// The channel of a lane, and its first pass.
+// Makes the channel of a lane, and its first pass.
 #[tactic(auto, using(crate::proofs::LaneSteps::begins))]
 fn channel(alloc: Global) -> Result<(Sender, Receiver, LanePass), AllocError>
     ensures { IfOk result (λ r. (receives_on r.1 ≡ sends_on r.0) × (ruled_capacity (sends_on r.0) ≡ LANE_MESSAGES) × IsSeatAt (sends_on r.0) r.2 × (knows r.2 ≡ lane_view true true [] [])) }

@@ -1,4 +1,4 @@
-//! How the well is made.
+//! How the stroke queue is made.
 
 ghost use Rattle.std.specs.Prelude.{◌≡◌, [], true, vec_len, IfOk, OnOk};
 ghost use Rattle.std.specs.Arc.{arc_value};
@@ -14,7 +14,8 @@ use std::alloc::{AllocError, Global};
 use std::sync::Arc;
 use std::sync::atomic::AtomicU64;
 
-/// Makes the well, which holds 64 strokes, and its pens, the k-th of number k, with nothing sent or received. Only want of memory refuses it.
+/// Makes the stroke queue, which holds 64 strokes, and its four producers, the k-th of number k. Nothing is sent or received yet. Fails only
+/// if out of memory.
 #[tactic(auto, using(crate::proofs::InkSteps::begins))]
 pub fn well(alloc: Global) -> Result<(ends::Well, Vec<Pen>), AllocError>
     ensures well { IfOk result (λ r. r.0 ≡ new_well r.0.well) }
@@ -40,7 +41,7 @@ pub fn well(alloc: Global) -> Result<(ends::Well, Vec<Pen>), AllocError>
     ))
 }
 
-// Cuts the pens off the reader's pass.
+// Makes the producers, whose passes are split off the reader's.
 #[tactic(auto, using(crate::proofs::InkSteps::next_pen))]
 fn all_pens(
     alloc: Global,

@@ -1,4 +1,4 @@
-//! What stands around the shapes: the title, the moments and the lifelines.
+//! The frame of a drawing: the title, the moments and the lifelines.
 
 use crate::action::LocalActionKind;
 use crate::drawing::legend::STYLE;
@@ -10,7 +10,7 @@ use srm_names::Member;
 use std::io;
 use std::io::Write;
 
-/// The beginning of the file, and its title.
+/// Writes the beginning of the file, and its title.
 pub(super) fn write_head<W: Write>(
     out: &mut W,
     subject: &Subject<'_>,
@@ -39,7 +39,7 @@ pub(super) fn write_head<W: Write>(
     )
 }
 
-/// A line for each entry, and its moment where it differs from the one before.
+/// Writes a line for each entry, and its moment if it differs from the one before.
 pub(super) fn write_moments<W: Write>(
     out: &mut W,
     subject: &Subject<'_>,
@@ -67,7 +67,7 @@ pub(super) fn write_moments<W: Write>(
     Ok(())
 }
 
-/// A moment in microseconds, as seconds.
+/// Writes a moment in microseconds as seconds.
 fn write_moment<W: Write>(out: &mut W, moment: u64, y: u64) -> io::Result<()> {
     writeln!(
         out,
@@ -79,7 +79,7 @@ fn write_moment<W: Write>(out: &mut W, moment: u64, y: u64) -> io::Result<()> {
     )
 }
 
-/// A line for each member, which is dashed once it is gone.
+/// Writes a line for each member, dashed once it is gone.
 pub(super) fn write_lifelines<W: Write>(
     out: &mut W,
     subject: &Subject<'_>,
@@ -115,7 +115,7 @@ fn write_lifeline<W: Write>(
     )
 }
 
-/// Where a member goes, if it does.
+/// Pixels from the top to where a member is gone, if it is.
 fn gone_at(picture: &Picture, layout: &Layout, member: Member) -> Option<u64> {
     let gone = picture.actions.iter().find(|action| action.kind == LocalActionKind::Gone
         && action.at.member == member)?;

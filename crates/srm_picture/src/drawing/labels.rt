@@ -10,15 +10,15 @@ use std::alloc::Global;
 use std::io::Write;
 use std::{fmt, io};
 
-/// A label has so many characters, at most; the title has all.
+/// A label has so many characters at most; its title has all.
 const LABEL: usize = 34;
 
-/// Writes text of what happened into XML.
+/// Writes text into XML.
 pub(super) fn write_text<W: Write>(alloc: Global, out: &mut W, text: &[u8]) -> io::Result<()> {
     out.write_all(escaped(alloc, text)?.as_slice())
 }
 
-/// The nth of the lines that begin with a word, without its line feed.
+/// The nth line, from 0, that begins with a word, without its line feed; empty if there is none.
 pub(super) fn line_of<'a>(lines: &'a [u8], word: &[u8], nth: usize) -> &'a [u8] {
     lines
         .split(|byte| *byte == b'\n')
@@ -27,7 +27,7 @@ pub(super) fn line_of<'a>(lines: &'a [u8], word: &[u8], nth: usize) -> &'a [u8] 
         .unwrap_or(b"")
 }
 
-/// What a datagram is about, in short.
+/// Displays a datagram in short.
 #[derive(Drop)]
 struct ShownDatagram<'a>(&'a Datagram);
 
@@ -47,7 +47,7 @@ impl fmt::Display for ShownDatagram<'_> {
     }
 }
 
-/// A label for each datagram where it was sent.
+/// Writes a label for each datagram at its sending.
 pub(super) fn write_datagrams<W: Write>(
     out: &mut W,
     subject: &Subject<'_>,
@@ -77,7 +77,7 @@ pub(super) fn write_datagrams<W: Write>(
     Ok(())
 }
 
-/// A notch and its line for each thing that happens at a member by itself.
+/// Writes a notch and its line for each local action.
 pub(super) fn write_notches<W: Write>(
     alloc: Global,
     out: &mut W,

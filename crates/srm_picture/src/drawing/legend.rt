@@ -1,10 +1,10 @@
-//! The looks of all shapes, and what they stand for.
+//! The styles of all shapes, and the legend.
 
 use crate::layout::Layout;
 use std::io;
 use std::io::Write;
 
-/// Colours that stay apart for the colour-blind, and a dash and a head of its own for each kind.
+/// Colours that the colour-blind can tell apart, and a different dash and head for each kind.
 pub(super) const STYLE: &[u8] = b"<style>
 text { font: 12px Helvetica, Arial, 'DejaVu Sans', sans-serif; fill: #222 }
 .paper { fill: #fff }

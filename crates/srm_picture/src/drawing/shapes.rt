@@ -12,10 +12,10 @@ use std::alloc::Global;
 use std::io;
 use std::io::Write;
 
-/// How far an arrow goes that never comes, to the side.
+/// How many pixels the arrow of a lost datagram goes to the side.
 const STUB: u64 = 60;
 
-/// And down.
+/// How many pixels it goes down.
 const FALL: u64 = 14;
 
 pub(super) fn write_brackets<W: Write>(
@@ -119,7 +119,7 @@ pub(super) fn write_arrows<W: Write>(
     Ok(())
 }
 
-/// What an arrow is: the line of its sending, and that of its hearing.
+/// Writes the lines of an arrow's sending and of its arrival.
 fn write_title<W: Write>(
     alloc: Global,
     out: &mut W,
@@ -162,7 +162,7 @@ fn write_arrow<W: Write>(out: &mut W, layout: &Layout, arrow: &Arrow) -> io::Res
     }
 }
 
-/// A way that ends between the lifelines.
+/// Writes an arrow that ends between the lifelines.
 fn write_lost<W: Write>(out: &mut W, layout: &Layout, launch: &Launch) -> io::Result<()> {
     let x = layout.x(launch.from.member);
     let y = layout.y(launch.from.entry, launch.nth);
@@ -172,7 +172,7 @@ fn write_lost<W: Write>(out: &mut W, layout: &Layout, launch: &Launch) -> io::Re
     write_cross(out, end, bottom)
 }
 
-/// From the sending to the hearing: a straight line, or a bow where both are at one member.
+/// Writes the way from the sending to the arrival: a straight line, or a bow if both are at one member.
 fn write_way<W: Write>(out: &mut W, layout: &Layout, arrow: &Arrow, at: &Point) -> io::Result<()> {
     let from = &arrow.launch.from;
     let x = layout.x(from.member);
@@ -195,7 +195,7 @@ fn write_cross<W: Write>(out: &mut W, x: u64, y: u64) -> io::Result<()> {
     )
 }
 
-/// Where an arrow ends that never comes: right of its member, or left of the last one.
+/// Where the arrow of a lost datagram ends: right of its sender, or left of the last member.
 fn lost_x(layout: &Layout, member: Member, x: u64) -> u64 {
     if layout.is_last(member) {
         x.saturating_sub(STUB)

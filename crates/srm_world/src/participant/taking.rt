@@ -13,7 +13,7 @@ use srm_timers::Words;
 use std::alloc::AllocError;
 
 impl<W: Words + Drop> Participant<W> {
-    /// Gives the next message of a slot to its page worker.
+    /// Gives the next message of a page slot, 0 to 7, to its worker.
     pub fn give(&mut self, slot: u8) -> Result<Entry, AllocError>
         requires { slot < PAGES }
         ensures ok { IfOk result (GoesOn W.next_word None (Input.Gave slot) self.old self.new) }
@@ -26,7 +26,7 @@ impl<W: Words + Drop> Participant<W> {
         Ok(entry)
     }
 
-    /// The page worker of a slot takes the next message that it was given. It takes no memory.
+    /// Lets the worker of a page slot, 0 to 7, take the next message that it was given, if there is one. Takes no memory, and can't fail.
     pub fn take(&mut self, slot: u8) -> Entry
         requires { slot < PAGES }
         ensures { GoesOn W.next_word None (Input.Took slot) self.old self.new result }
@@ -51,7 +51,7 @@ impl<W: Words + Drop> Participant<W> {
     }
 }
 
-/// The message that was given. A give that has an entry isn't refused.
+/// The message that was given. A give that has an entry doesn't fail.
 fn message_of(answer: Result<Option<PageMsg>, AgentFault>) -> Option<PageMsg>
     ensures { IfOk answer (λ message. result ≡ message) }
 {

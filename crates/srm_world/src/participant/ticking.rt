@@ -12,7 +12,7 @@ use srm_timers::Words;
 use std::alloc::AllocError;
 
 impl<W: Words + Drop> Participant<W> {
-    /// Hears bytes that came from another member.
+    /// Hears bytes that came from another member, at a moment in microseconds.
     pub fn hear(&mut self, bytes: &[u8], now: u64) -> Result<Entry, AllocError>
         requires { now ≤ LATEST_MOMENT }
         ensures ok { IfOk result (λ e. GoesOn W.next_word (Some now) e.input self.old self.new e) }
@@ -26,7 +26,7 @@ impl<W: Words + Drop> Participant<W> {
         Ok(entry)
     }
 
-    /// A moment has come. The answer has what is to be sent to all others, with the bytes.
+    /// Does what is due at a moment, in microseconds, and returns the entry and the datagrams for all others, with their bytes.
     pub fn tick(&mut self, now: u64) -> Result<(Entry, Items<Out>), AllocError>
         requires { now ≤ LATEST_MOMENT }
         ensures ok { IfOk result (λ sent. GoesOn W.next_word (Some now) Input.Ticked self.old self.new sent.0) }
@@ -38,7 +38,7 @@ impl<W: Words + Drop> Participant<W> {
         Ok((entry, self.outs_of(answer)))
     }
 
-    /// The tick of the agent, as the agent notes it. Only want of memory refuses it.
+    /// The agent's tick, with its entry. Fails only if out of memory.
     fn tick_agent(&mut self, now: u64) -> Result<Noted<Ticked>, AllocError>
         requires { now ≤ LATEST_MOMENT }
         ensures rest { self.new ≡ record self.old { agent = self.new.agent } }
@@ -49,7 +49,7 @@ impl<W: Words + Drop> Participant<W> {
         self.agent.tick_noted(now)
     }
 
-    /// What is to be sent. A tick that has an entry isn't refused.
+    /// What the tick sends. A tick that has an entry doesn't fail.
     fn outs_of(&self, answer: Result<Ticked, AgentFault>) -> Items<Out>
         ensures { IfOk answer (λ ticked. result ≡ ticked.outs) }
     {

@@ -1,4 +1,4 @@
-//! What an event does to its member, entered into the trace.
+//! Entering an event into the trace.
 
 ghost use Rattle.std.specs.Prelude.{◌≡◌, [], IfOk, IfNone, IfSome, OnErr};
 ghost use Rattle.srm_world.specs.Events.{IsTimely};
@@ -15,7 +15,8 @@ use srm_names::PAGES;
 use srm_timers::Words;
 use std::alloc::AllocError;
 
-/// Lets an event happen to its member, and answers whether it left an entry, which the trace then has. What was sent goes on with it.
+/// Lets an event happen to its member, and appends its entry to the trace and what the member sent to `sent`. Returns whether it left an
+/// entry. Fails only if out of memory.
 pub(super) fn enter<W: Words + Drop>(
     participants: &mut [Participant<W>],
     sent: &mut SentDatagrams,
@@ -38,7 +39,7 @@ pub(super) fn enter<W: Words + Drop>(
     }
 }
 
-/// The entry of an event, unless it is skipped. The members and what was sent go on with it.
+/// Lets an event happen to its member, and returns its entry; `None` if the event is skipped. Adds what the member sent to `sent`.
 fn entry_of<W: Words + Drop>(
     participants: &mut [Participant<W>],
     sent: &mut SentDatagrams,
