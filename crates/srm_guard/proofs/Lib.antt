@@ -1,3 +1,4 @@
 mod Comparing
 mod Guarding
 mod Tagging
+pub mod Reading

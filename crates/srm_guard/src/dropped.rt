@@ -3,7 +3,7 @@
 ghost use Rattle.std.specs.Prelude.{◌≡◌};
 ghost use Rattle.srm_guard.specs.Guards.{none_dropped, one_dropped};
 
-/// How many datagrams a guard dropped, by cause. Each count goes up to the greatest u64.
+/// How many datagrams a guard dropped, by cause. Each count stops at the greatest u64.
 #[derive(Clone, Copy, Debug, PartialEq, Eq)]
 pub struct Dropped {
     /// Those without their right tag.
@@ -20,7 +20,7 @@ pub(crate) enum Cause {
 }
 
 impl Dropped {
-    /// Nothing was dropped yet.
+    /// Returns counts of 0.
     pub fn none() -> Dropped
         ensures { result ≡ none_dropped }
     {

@@ -13,10 +13,10 @@ use srm_wire::{Wire, WireFault, count_failure};
 use std::alloc::{AllocError, Global};
 use std::marker::Model;
 
-/// A `receive` drops so many datagrams at most, and then says that nothing came: so whoever floods a member with noise doesn't keep it from its turns.
+/// Datagrams that one `receive` drops at most, so that a flood of noise doesn't keep a member from its turns.
 const MOST_DROPPED: usize = 64;
 
-/// The longest datagram that gets a tag, that of UDP.
+/// Bytes of the longest datagram that gets a tag.
 const LONGEST: usize = 65_535;
 
 // What one receive of the wire below comes to.
@@ -26,8 +26,8 @@ enum Came {
     Dropped,
 }
 
-/// A wire around a wire. With a key, what it sends goes with its tag, and what comes without its right tag is dropped. With a limit, a datagram that would make
-/// too many names missing is dropped. All else is as of the wire below; where nothing comes, it neither waits nor tells.
+/// A wire around a wire. With a key it sends each datagram with its tag behind it, and drops what comes without its right tag. With a limit it drops a datagram that would make
+/// too many names missing. Everything else is as with the wire below.
 #[derive(Drop)]
 pub struct Guard<X: Wire + Drop> {
     wire: X,
@@ -52,7 +52,7 @@ impl<X: Wire + Drop> Model for Guard<X> {
 }
 
 impl<X: Wire + Drop> Guard<X> {
-    /// A guard over a wire. Fails only if out of memory.
+    /// Makes a guard over a wire. It allocates 64 KiB, and fails only if out of memory.
     pub fn new(
         wire: X,
         alloc: Global,
@@ -73,21 +73,21 @@ impl<X: Wire + Drop> Guard<X> {
         })
     }
 
-    /// The wire below.
+    /// Returns the wire below.
     pub fn wire(&self) -> &X
         ensures { result.now ≡ self.now.wire }
     {
         &self.wire
     }
 
-    /// How many datagrams were dropped so far, by cause.
+    /// Returns how many datagrams were dropped so far, by cause.
     pub fn dropped(&self) -> Dropped
         ensures { result ≡ self.now.dropped }
     {
         self.dropped
     }
 
-    // How many bytes the datagram has that these are with its tag, if they carry their right one.
+    // Returns how many of these bytes are the datagram before its tag, if the tag is right.
     fn open(&self, bytes: &[u8]) -> Option<usize>
         ensures { MatchOption result (HasNoTag self.now.key bytes.now) (λ count. OpensTo self.now.key bytes.now count) }
     {
@@ -97,7 +97,7 @@ impl<X: Wire + Drop> Guard<X> {
         }
     }
 
-    // How many bytes of these the node is to hear, or why they are dropped.
+    // Returns how many of these bytes the node is to hear, or why they are dropped.
     fn judge(&self, bytes: &[u8]) -> Result<usize, Cause>
         ensures { MatchResult result (λ count. OpensTo self.now.key bytes.now count) (CausesDrop self.now.key self.now.limited bytes.now) }
     {

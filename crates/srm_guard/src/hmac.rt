@@ -14,14 +14,14 @@ const INNER: u8 = 0x36;
 
 const OUTER: u8 = 0x5c;
 
-/// The code of a message by a key. Keys of up to 64 bytes are best: of a longer one its digest stands in its place.
+/// Returns the HMAC-SHA256 of a message under a key of any length. A key of more than 64 bytes is replaced by its digest.
 pub fn hmac_sha256(key: &[u8], message: &[u8]) -> [u8; 32]
     ensures { result ≡ hmac_sha256 key.now message.now }
 {
     Pads::new(key).code(b"", message)
 }
 
-/// A key made ready for many messages: its block, combined with either byte.
+/// A key prepared for many messages: its block, combined with either byte.
 #[derive(Drop)]
 pub(crate) struct Pads {
     inner: [u8; 64],
@@ -29,7 +29,7 @@ pub(crate) struct Pads {
 }
 
 impl Pads {
-    /// A key made ready.
+    /// Prepares a key of any length.
     pub(crate) fn new(key: &[u8]) -> Pads
         ensures inner { result.inner ≡ padded (key_block key.now) 0x36 }
         ensures outer { result.outer ≡ padded (key_block key.now) 0x5c }
@@ -41,7 +41,7 @@ impl Pads {
         }
     }
 
-    /// The code of a label with a message behind it.
+    /// Returns the code of a label with a message behind it.
     pub(crate) fn code(&self, label: &[u8], message: &[u8]) -> [u8; 32]
         ensures { result ≡ sha256 (self.now.outer ++ sha256 (self.now.inner ++ (label.now ++ message.now))) }
     {

@@ -18,10 +18,10 @@ const SHORTEST: usize = 16;
 
 const LONGEST: usize = 1_024;
 
-/// What stands before a datagram where its tag is made.
+/// What stands before a datagram as its tag is made, so that no other use of the key makes the same tag.
 const LABEL: [u8; 16] = *b"ringyew-datagram";
 
-/// The key that the members of a session share: 16 to 1,024 bytes, best 32 at random. A datagram that carries its tag was sent by who has the key.
+/// The key that the members of a session share: 16 to 1,024 bytes, best 32 random ones. Only who has the key can make a datagram's tag.
 #[derive(Drop)]
 pub struct Key {
     bytes: Vec<u8>,
@@ -40,7 +40,7 @@ impl Model for Key {
 }
 
 impl Key {
-    /// A key of these bytes. None unless there are 16 to 1,024.
+    /// Makes a key of these bytes. Returns `None` unless there are 16 to 1,024.
     pub fn new(bytes: Vec<u8>) -> Option<Key>
         ensures fits { IsSome result ↔ ((16 ≤ vec_len bytes) × (vec_len bytes ≤ 1024)) }
         ensures value { IfSome result (λ key. key ≡ bytes.items) }
@@ -52,14 +52,14 @@ impl Key {
         Some(Key { bytes, pads })
     }
 
-    /// The tag of a datagram.
+    /// Returns the tag of a datagram: the first 16 bytes of the HMAC-SHA256 of `ringyew-datagram` and the datagram.
     pub fn tag(&self, datagram: &[u8]) -> [u8; 16]
         ensures { result ≡ tag_of self.now datagram.now }
     {
         first_half(&self.pads.code(&LABEL, datagram))
     }
 
-    /// How many bytes the datagram has that these are with its tag. None where they carry no right tag. All bytes of the tag are compared, whatever differs.
+    /// Returns how many of these bytes are the datagram, if its right tag follows it, and else `None`. It compares all bytes of the tag, so the time tells nothing of where they differ.
     pub fn open(&self, bytes: &[u8]) -> Option<usize>
         ensures { MatchOption result (HasNoTag (Some self.now) bytes.now) (λ count. (count ≤ length bytes.now) × (bytes.now ≡ tagged (Some self.now) (take count bytes.now))) }
     {
@@ -84,7 +84,7 @@ fn first_half(code: &[u8; 32]) -> [u8; 16]
     tag
 }
 
-// Whether two lists of bytes are the same. It looks at each byte, so how long it takes tells nothing of where they differ.
+// Returns whether two lists of bytes are the same, after looking at each byte.
 fn is_same(one: &[u8], other: &[u8]) -> bool
     ensures { IsTrue result ↔ (one.now ≡ other.now) }
 {
@@ -98,26 +98,33 @@ fn is_same(one: &[u8], other: &[u8]) -> bool
     differing == 0
 }
 
-/// Why a key can't be had.
+/// Why a key can't be read.
 #[derive(Debug, Drop, Error)]
 pub enum KeyFault {
-    /// The file or stream that it stands in can't be read.
+    /// The reader failed.
     #[error("can't be read: {0}")]
     Unreadable(io::Error),
-    /// It has fewer bytes than 16, or more than 1,024.
+    /// It has fewer than 16 bytes, or more than 1,024.
     #[error("a key has 16 to 1,024 bytes")]
     Length,
-    /// There is no memory for it.
+    /// Out of memory.
     #[error("out of memory")]
     Memory,
 }
 
 impl Key {
-    /// Reads a key: all bytes that the reader has, a line end at their end too. At most 1,025 bytes are read.
-    pub fn read<I: Read>(alloc: Global, reader: &mut I) -> Result<Key, KeyFault> {
+    /// Reads a key: all bytes to the reader's end, a last line end too. It reads at most 1,025 bytes. Fails with `Unreadable` if the reader fails, `Length` unless there are 16 to
+    /// 1,024 bytes, and `Memory` if out of memory.
+    pub fn read<I: Read>(alloc: Global, reader: &mut I) -> Result<Key, KeyFault>
+        ensures fits { IfOk result (λ key. (16 ≤ length key) × (length key ≤ 1024)) }
+        ensures whole { IfOk result (λ key. IfSome (I.remaining reader.old) (λ bytes. key ≡ bytes)) }
+    {
         let mut bytes = Vec::new(alloc);
         match reader.take(LONGEST as u64 + 1).read_to_end(&mut bytes) {
-            Ok(_) => Key::new(bytes).ok_or(KeyFault::Length),
+            Ok(_) => match Key::new(bytes) {
+                Some(key) => Ok(key),
+                None => Err(KeyFault::Length),
+            },
             Err(error) if error.kind() == ErrorKind::OutOfMemory => Err(KeyFault::Memory),
             Err(error) => Err(KeyFault::Unreadable(error)),
         }

@@ -8,8 +8,8 @@ use std::sync::atomic::{AtomicU32, AtomicU64, Ordering};
 // What stands in a slot that is free.
 const FREE: u32 = 0;
 
-/// What a member knows, as far as its guard asks for it: how many names it misses, and the greatest number of each stream. The member's side shows it, and the guard
-/// reads it, from whichever threads.
+/// What a member knows, as far as its guard asks for it: how many names it misses, and the greatest number of each stream. The member's side writes it and the guard
+/// reads it, from any thread.
 #[derive(Drop)]
 pub struct Known {
     missing: AtomicU64,
@@ -20,7 +20,7 @@ pub struct Known {
 }
 
 impl Known {
-    /// Nothing is known, and nothing missing. Fails only if out of memory.
+    /// Makes what a member knows that heard nothing. Fails only if out of memory.
     pub fn new(alloc: Global) -> Result<Known, AllocError> {
         let slots = usize::from(PAGES);
         Ok(Known {
@@ -30,17 +30,17 @@ impl Known {
         })
     }
 
-    /// So many names are missing now.
+    /// Says that so many names are missing now.
     pub fn show_missing(&self, count: usize) {
         self.missing.store(count as u64, Ordering::SeqCst);
     }
 
-    /// How many names are missing, as shown last.
+    /// Returns how many names are missing, as said last.
     pub fn missing(&self) -> u64 {
         self.missing.load(Ordering::SeqCst)
     }
 
-    /// The member heard a datagram and took it, so that it knows the names in it.
+    /// Says that the member accepted a datagram, and so knows the names in it.
     pub fn show_heard(&self, datagram: &Datagram) {
         match datagram {
             Datagram::Data(drawop) | Datagram::Repair { drawop, .. } => {
@@ -55,7 +55,7 @@ impl Known {
         }
     }
 
-    /// The greatest number that is known of a stream, 0 where none is.
+    /// Returns the greatest number that is known of a stream, or 0.
     pub fn greatest(&self, stream: Stream) -> u32 {
         match self.slot_of(code_of(stream.page)) {
             Some(slot) => load(&self.greatest, place_in(slot, stream.source)),
@@ -63,7 +63,7 @@ impl Known {
         }
     }
 
-    // The member knows the stream of a name up to this number. A page beyond the member's own table isn't taken, and so not shown.
+    // Says that the member knows the stream of a name up to this number. A page without a slot in the member's table is never accepted, so there is a slot here.
     fn show(&self, name: Name, number: u32) {
         let code = code_of(name.stream().page);
         let slot = match self.slot_of(code) {
@@ -78,7 +78,7 @@ impl Known {
         }
     }
 
-    // The slot of a page, if it has one.
+    // Returns the slot of a page, if it has one.
     fn slot_of(&self, code: u32) -> Option<usize> {
         self.pages
             .iter()
@@ -93,7 +93,7 @@ impl Known {
     }
 }
 
-/// The greatest number that a request with this mask names.
+/// Returns the greatest number that a request with this mask names.
 pub(crate) fn last_asked(name: Name, mask: u32) -> u32 {
     name.number()
         .saturating_add(u32::BITS - mask.leading_zeros())

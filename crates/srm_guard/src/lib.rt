@@ -1,14 +1,14 @@
-//! A guard below a node: a wire that drops what the node is not to hear.
+//! A guard below a node: a wire around a wire that drops what the node is not to hear.
 //!
 //! ```
-//! let guard = Guard::new(wire, alloc, Some(key), None)?; // each datagram has a tag that only who has the key can make
+//! let key = Key::read(alloc, &mut file)?; // 16 to 1,024 bytes that all members share
+//! let guard = Guard::new(wire, alloc, Some(key), None)?; // tags what it sends, drops what has no right tag
 //! ```
 //!
-//! **What it drops.** With a [`Key`], all that doesn't carry its right tag. With a [`Limit`], a datagram that would make more names missing than the member is to ask
-//! for. A network may lose any datagram, so a guard may drop it: what holds of a node holds over any wire.
+//! **Drops.** With a [`Key`] the guard drops each datagram without its right tag. With a [`Limit`] it drops a datagram that would make more names missing than the member is to
+//! request. A network may lose any datagram, so a guard may drop it, and what holds of a node over any wire holds over a guard.
 //!
-//! **What a key doesn't do.** It hides nothing, it doesn't stop an old datagram from being sent again, and it doesn't tell one member from another: who has the key may
-//! lie as any member may.
+//! **Limits of a key.** It hides nothing, doesn't stop anyone from sending an old datagram again, and doesn't tell one member from another: a member that has the key may lie.
 #![tactic(auto)]
 
 mod dropped;

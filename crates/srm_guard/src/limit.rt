@@ -8,23 +8,24 @@ use srm_names::{Member, Name};
 use std::alloc::Global;
 use std::sync::Arc;
 
-/// A limit to what a member misses: a datagram that would raise the count above it is dropped. One that makes nothing missing never is, however much is missing already.
+/// A limit to what a member misses: the guard drops a datagram that would raise the count above it. One that makes nothing missing passes, however much is missing already.
 ///
-/// A member that would have to catch up on more names than this at once never does: what tells it of them is dropped.
+/// A member that is further behind than this never catches up, since what tells it of the missing names is dropped.
 #[derive(Drop)]
 pub struct Limit {
     /// The most names that may be missing.
     pub most: u64,
-    /// The session, and the member in it.
+    /// The number of the session.
     pub session: u32,
+    /// The member that the guard is for.
     pub me: Member,
     /// What the member knows by now.
     pub known: Arc<Known, Global>,
 }
 
 impl Limit {
-    /// Whether a datagram, as bytes without a tag, would make too many names missing. What is no datagram of the session makes none missing, and one for which
-    /// memory is refused passes: the member meets that itself.
+    /// Returns whether a datagram, as bytes without a tag, would make too many names missing. Bytes that are no datagram of the session make none missing. If out of memory the
+    /// datagram passes, and the member meets that itself.
     pub(crate) fn is_excess(&self, alloc: Global, bytes: &[u8]) -> bool {
         match decode(alloc, self.session, bytes) {
             Ok(datagram) => exceeds(
@@ -36,7 +37,7 @@ impl Limit {
         }
     }
 
-    // How many names become missing by a datagram: those above what is known of their streams, up to what it names. The drawop that it brings isn't missing, nor are
+    // Returns how many names become missing by a datagram: those above what is known of their streams, up to what it names. Neither the drawop that it brings is missing, nor are
     // the member's own.
     fn made_missing(&self, datagram: &Datagram) -> u64 {
         match datagram {
@@ -54,7 +55,7 @@ impl Limit {
         }
     }
 
-    // How far a number is above what is known of a name's stream.
+    // Returns how far a number is above what is known of a name's stream.
     fn above(&self, name: Name, number: u32) -> u64 {
         if name.source() == self.me {
             return 0;
@@ -63,7 +64,7 @@ impl Limit {
     }
 }
 
-// Whether so many more names are too many, where so many are missing.
+// Returns whether so many more names are too many.
 fn exceeds(most: u64, missing: u64, more: u64) -> bool
     ensures { IsTrue result ↔ ((0 < more) × (most < missing + more)) }
 {
