@@ -1,20 +1,23 @@
--- A wire to three members, and its failures.
-use Rattle.std.specs.Prelude.{◌≡◌, refl}
-use Rattle.srm_wire.specs.Wires.{greatest_count}
-use Rattle.std.proofs.Common.{arith}
+-- A wire over UDP at worked calls.
+use Rattle.std.specs.Prelude.{◌≡◌, true, [], ◌∷◌, Some, None, refl}
+use Rattle.std.specs.declared.net.socket_addr.SocketAddr.{SocketAddr}
+use Rattle.std.proofs.Common.{arith, inl}
+use Rattle.srm_wire.specs.Wires.{greatest_count, answered_with, bytes_to, none_there}
 use Rattle.srm_udp.specs.Clocks.{NeverFalls}
 use Rattle.srm_udp.specs.declared.loss.Loss.TheVariants.{Denied}
+use Rattle.srm_udp.specs.Inboxes.{Arrives, new_inbox, none_dropped, one_stranger}
 use Rattle.srm_udp.specs.Losses.{no_losses}
-use Rattle.srm_udp.specs.Udp.{new_wire, one_more_failure, one_more_loss}
+use Rattle.srm_udp.specs.Waiting.{cut, Takes}
+use Rattle.srm_udp.specs.Udp.{BringsNext, SendsOne, new_wire, one_more_failure, one_more_loss}
 
-the_first_failure : one_more_failure (new_wire 3) ≡ record { members = 3; failures = 1; losses = no_losses }
+the_first_failure : one_more_failure (new_wire []) ≡ record { inbox = new_inbox []; failures = 1; losses = no_losses }
 the_first_failure = refl
 
-the_greatest_count_stays : one_more_failure (record { members = 3; failures = greatest_count; losses = no_losses }) ≡ record { members = 3; failures = greatest_count; losses = no_losses }
+the_greatest_count_stays : one_more_failure (record { inbox = new_inbox []; failures = greatest_count; losses = no_losses }) ≡ record { inbox = new_inbox []; failures = greatest_count; losses = no_losses }
 the_greatest_count_stays = refl
 
 -- a datagram that a firewall forbids counts as denied, and as nothing else
-the_first_loss : one_more_loss Denied (new_wire 3) ≡ record { members = 3; failures = 0; losses = record no_losses { denied = 1 } }
+the_first_loss : one_more_loss Denied (new_wire []) ≡ record { inbox = new_inbox []; failures = 0; losses = record no_losses { denied = 1 } }
 the_first_loss = refl
 
 -- a clock that told 5 may tell 5 again, and not 4
@@ -23,3 +26,39 @@ tells_5_again = (omega arith, refl)
 
 not_4_behind_5 : NeverFalls (record { last = 5 }) 4 (record { last = 4 }) → ⊥
 not_4_behind_5 h = omega (arith, h.0)
+
+-- five bytes as one datagram of two, one of none, and one of three
+three_that_wait : cut (2 ∷ 0 ∷ 3 ∷ []) (1 ∷ 2 ∷ 3 ∷ 4 ∷ 5 ∷ []) ≡ (1 ∷ 2 ∷ []) ∷ [] ∷ (3 ∷ 4 ∷ 5 ∷ []) ∷ []
+three_that_wait = refl
+
+-- the first of two is taken, cut to a buffer of one byte, and the other stays
+takes_the_first : Takes ((1 ∷ 2 ∷ []) ∷ (3 ∷ []) ∷ []) (1 ∷ []) (Some 1) ((3 ∷ []) ∷ [])
+takes_the_first = (1 ∷ 2 ∷ [], refl, omega arith, refl)
+
+-- not the second, though a buffer has room for it
+not_the_second : Takes ((1 ∷ 2 ∷ []) ∷ (3 ∷ []) ∷ []) (3 ∷ []) (Some 1) ((1 ∷ 2 ∷ []) ∷ []) → ⊥
+not_the_second h = cc (h.1)
+
+-- and not none
+not_none : Takes ((3 ∷ []) ∷ []) [] None ((3 ∷ []) ∷ []) → ⊥
+not_none h = cc (h.0)
+
+-- whoever sends to a roster without members is a stranger
+a_stranger_is_dropped : (origin : SocketAddr) → Arrives (record { origin = origin; bytes = 1 ∷ [] }) (record (new_inbox []) { only_roster = true }) (record (new_inbox []) { only_roster = true; dropped = one_stranger none_dropped })
+a_stranger_is_dropped origin = inl ((refl, λ h. h), refl)
+
+-- a denied datagram is answered before the one that waits, and nothing came then
+a_loss_comes_first : BringsNext (Some (Some Denied)) ((1 ∷ []) ∷ []) 4 none_there (new_wire []) (one_more_loss Denied (new_wire []))
+a_loss_comes_first = (refl, refl)
+
+-- a datagram of two bytes is cut to a room of one
+it_is_cut_to_the_room : BringsNext None ((1 ∷ 2 ∷ []) ∷ []) 1 (answered_with (1 ∷ [])) (new_wire []) (new_wire [])
+it_is_cut_to_the_room = (refl, refl)
+
+-- a send to a member without an address fails
+nobody_is_there : SendsOne (bytes_to 0 (1 ∷ [])) true (new_wire []) (one_more_failure (new_wire []))
+nobody_is_there = record {
+  takes = record { arrivals = []; between = new_inbox []; came = refl; then_error = refl; waits = λ error is. refl };
+  counts = refl;
+  stranger = λ few. refl;
+}

@@ -1,4 +1,6 @@
 pub mod Clocks
 pub mod Losses
+pub mod Waiting
+pub mod Inboxes
 pub mod Udp
 pub mod Examples

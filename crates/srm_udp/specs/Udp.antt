@@ -1,23 +1,29 @@
 -- What contracts see of a wire over UDP.
-use Rattle.std.specs.Prelude.{◌≡◌, ◌⊎◌, ◌==◌, ℕ, if◌then◌else◌, Bool, not, Option, Some, None, is_none, Result, Ok, Err}
-use Rattle.std.specs.IoError.{error_kind}
+use Rattle.std.specs.Prelude.{◌≡◌, ◌⊎◌, ◌==◌, ◌≤◌, ℕ, if◌then◌else◌, Bool, true, false, not, List, [], ◌∷◌, length, take, Option, Some, None, is_none, Result, Ok, Err}
 use Rattle.std.specs.declared.io.Error.{Error}
-use Rattle.std.specs.declared.io.ErrorKind.{ErrorKind}
-use Rattle.std.specs.declared.io.ErrorKind.TheVariants.{WouldBlock}
-use Rattle.srm_wire.specs.Wires.{one_more}
+use Rattle.std.specs.declared.net.socket_addr.SocketAddr.{SocketAddr}
+use Rattle.srm_wire.specs.declared.sent.Sent.{Sent}
+use Rattle.srm_wire.specs.Wires.{one_more, answered_with, none_there, it_failed}
 use Rattle.srm_udp.specs.declared.loss.Loss.{Loss}
 use Rattle.srm_udp.specs.declared.loss.Losses.{Losses}
+use Rattle.srm_udp.specs.declared.inbox.Next.{Next}
+use Rattle.srm_udp.specs.declared.inbox.Next.TheVariants.{Datagram, Failed}
+use Rattle.srm_udp.specs.Inboxes.{InboxView, TakesIn, new_inbox, with_waiting, without_error}
 use Rattle.srm_udp.specs.Losses.{loss_of, no_losses, with_loss}
 
--- how many members have an address, how many calls failed, and how many datagrams were lost of each kind
+-- what came and waits, with the members' addresses, how many calls failed, and how many datagrams were lost of each kind
 pub record UdpView : Type 0 where
-  pub members : ℕ
+  pub inbox : InboxView
   pub failures : ℕ
   pub losses : Losses
 
--- a wire to so many members of which no call failed, and which lost nothing
-abbrev pub new_wire : ℕ → UdpView
-new_wire members = record { members = members; failures = 0; losses = no_losses }
+-- a wire to the members at these addresses of which no call failed, to which nothing came, and which lost nothing
+abbrev pub new_wire : List SocketAddr → UdpView
+new_wire roster = record { inbox = new_inbox roster; failures = 0; losses = no_losses }
+
+-- a wire with what came and waits by now
+abbrev pub with_inbox : InboxView → UdpView → UdpView
+with_inbox inbox w = record w { inbox = inbox }
 
 -- one more failure, up to the greatest number of 64 bits
 abbrev pub one_more_failure : UdpView → UdpView
@@ -27,14 +33,14 @@ one_more_failure w = record w { failures = one_more w.failures }
 abbrev pub one_more_loss : Loss → UdpView → UdpView
 one_more_loss kind w = record w { losses = with_loss kind w.losses }
 
--- An Err is one more failure. An Ok changes nothing, or counts one loss.
+-- An Err is one more failure. An Ok changes nothing but what waits, or counts one loss.
 abbrev pub CountsEach : {T E : Type 0} → Result T E → UdpView → UdpView → Type 0
-CountsEach (Ok _) old new = (new ≡ old) ⊎ ((kind : Loss) × (new ≡ one_more_loss kind old))
-CountsEach (Err _) old new = new ≡ one_more_failure old
+CountsEach (Ok _) old new = (new ≡ with_inbox new.inbox old) ⊎ ((kind : Loss) × (new ≡ one_more_loss kind (with_inbox new.inbox old)))
+CountsEach (Err _) old new = new ≡ one_more_failure (with_inbox new.inbox old)
 
 -- the same of a receive, which counts no loss where it brings a datagram
 abbrev pub CountsReceive : {E : Type 0} → Result (Option ℕ) E → UdpView → UdpView → Type 0
-CountsReceive (Ok (Some _)) old new = new ≡ old
+CountsReceive (Ok (Some _)) old new = new ≡ with_inbox new.inbox old
 CountsReceive answer old new = CountsEach answer old new
 
 -- an error is a loss of its kind, or else a failure
@@ -51,24 +57,42 @@ abbrev pub send_fails : ℕ → Result ℕ Error → Bool
 send_fails length (Ok count) = not (count == length)
 send_fails length (Err e) = is_none (loss_of e)
 
--- What the system answers to a receive: so many bytes, that nothing is there, or another error. The wire after it, and what the receive answers, None where it failed.
-abbrev pub after_error_of_receive : ErrorKind → Option Loss → UdpView → UdpView
-after_error_of_receive WouldBlock _ w = w
-after_error_of_receive _ loss w = after_error loss w
-
-abbrev pub after_receive : Result ℕ Error → UdpView → UdpView
-after_receive (Ok _) w = w
-after_receive (Err e) w = after_error_of_receive (error_kind e) (loss_of e) w
-
-abbrev pub received_with : Option Loss → Option (Option ℕ)
-received_with (Some _) = Some None
-received_with None = None
-
-abbrev pub received : Result ℕ Error → Option (Option ℕ)
-received (Ok count) = Some (Some count)
-received (Err e) = received_with (loss_of e)
-
 -- the answer of a call that didn't fail
 abbrev pub answer_of : {T E : Type 0} → Result T E → Option T
 answer_of (Ok answer) = Some answer
 answer_of (Err _) = None
+
+-- What comes next out of the inbox is answered: an error as a loss of its kind, where nothing came, or else as a failure.
+abbrev pub after_next : Next → UdpView → UdpView
+after_next (Datagram _) w = w
+after_next (Failed error) w = after_error error w
+
+abbrev pub AnswersNext : {E : Type 0} → Next → Result (Option ℕ) E → Type 0
+AnswersNext (Datagram count) answer = answer_of answer ≡ Some count
+AnswersNext (Failed (Some _)) answer = answer_of answer ≡ Some None
+AnswersNext (Failed None) answer = answer_of answer ≡ None
+
+-- What a receive with room for so many bytes brings, by the error that is pending and the datagrams that wait: an error before all else, where a loss means that nothing came, and anything else
+-- that the receive failed; without one the oldest datagram, cut to the room; and nothing where none waits.
+abbrev pub BringsNext : Option (Option Loss) → List (List ℕ) → ℕ → List (Option (List ℕ)) → UdpView → UdpView → Type 0
+BringsNext (Some (Some kind)) waiting room answer old new = (answer ≡ none_there) × (new ≡ one_more_loss kind (with_inbox (without_error old.inbox) old))
+BringsNext (Some None) waiting room answer old new = (answer ≡ it_failed) × (new ≡ one_more_failure (with_inbox (without_error old.inbox) old))
+BringsNext None [] room answer old new = (answer ≡ none_there) × (new ≡ old)
+BringsNext None (first ∷ more) room answer old new = (answer ≡ answered_with (take room first)) × (new ≡ with_inbox (with_waiting more old.inbox) old)
+
+-- A receive: what lies in the socket may be taken in, and then it brings what comes next.
+pub record ReceivesNext (room : ℕ) (answer : List (Option (List ℕ))) (old new : UdpView) : Type 0 where
+  pub looked : InboxView
+  pub takes : TakesIn old.inbox looked
+  pub brings : BringsNext looked.pending looked.waiting room answer (with_inbox looked old) new
+
+-- A send that failed is one more failure. One that didn't changes nothing but what waits, or counts one loss.
+abbrev pub CountsSend : Bool → UdpView → UdpView → Type 0
+CountsSend false old new = (new ≡ with_inbox new.inbox old) ⊎ ((kind : Loss) × (new ≡ one_more_loss kind (with_inbox new.inbox old)))
+CountsSend true old new = new ≡ one_more_failure (with_inbox new.inbox old)
+
+-- A send: what lies in the socket may be taken in, and the call is counted. One to a member without an address fails.
+pub record SendsOne (sent : Sent) (failed : Bool) (old new : UdpView) : Type 0 where
+  pub takes : TakesIn old.inbox new.inbox
+  pub counts : CountsSend failed old new
+  pub stranger : length old.inbox.roster ≤ sent.to → failed ≡ true

@@ -1,22 +1,29 @@
-//! A wire over UDP, and the system's clock.
+//! A wire over UDP with its own queue, and the system's clock.
 //!
 //! ```
-//! let wire = UdpWire::bind(&rt, alloc, me, addresses)?; // the members' addresses, by number
-//! let waker = wire.waker()?; // for a thread that asks something of the node: `waker.wake()` ends its pause
+//! let mut wire = UdpWire::bind(&rt, alloc, me, addresses)?; // the members' addresses, by number
+//! wire.keep_to_roster(); // drops and counts what comes from elsewhere
+//! let waker = wire.waker()?; // for another thread: `waker.wake()` ends the node's pause
 //! let clock = SystemClock::new(rt)?;
 //! ```
 //!
-//! **What fails.** A `send` or `receive` that the system answers with an error, but for those of [`loss_of`]: what these lose is lost as on
-//! any way, and is requested again. So a member that ends, and whose port is closed then, ends no other. [`UdpWire::losses`] has how many there were of each kind.
+//! **Failures.** A `send` or `receive` fails if the system answers with an error that is no loss ([`loss_of`]). A lost datagram is requested again, so a member that ends and closes its
+//! port ends no other. [`UdpWire::losses`] counts losses by kind, [`UdpWire::dropped`] what was received and dropped.
 #![tactic(auto)]
 
+mod backlog;
+mod dropped;
+mod inbox;
 mod loss;
+mod room;
+mod roster;
 mod system_clock;
 #[cfg(test)]
 mod tests;
 mod udp_wire;
 mod wire_waker;
 
+pub use dropped::Dropped;
 pub use loss::{Loss, Losses, is_loss, loss_of};
 pub use system_clock::SystemClock;
 pub use udp_wire::UdpWire;

@@ -1,4 +1,4 @@
-//! Which answers of the system are loss and no failure, and what kinds of loss there are.
+//! Which errors of the system are loss and no failure.
 
 ghost use Rattle.std.specs.Prelude.{◌≡◌, ◌↔◌, IsTrue};
 ghost use Rattle.srm_wire.specs.Wires.{one_more};
@@ -10,35 +10,35 @@ use std::io::ErrorKind;
 /// How a datagram was lost, as the system tells the member that sent it.
 #[derive(Clone, Copy, Debug, PartialEq, Eq)]
 pub enum Loss {
-    /// No way leads to where it was to go: the network or the host is down, or can't be reached.
+    /// The network or the host is down, or there is no route to it.
     NoWay,
-    /// It isn't allowed to go, as where a firewall forbids it.
+    /// The system denies it, as a firewall does.
     Denied,
-    /// It is too long for its way.
+    /// It is too long for the socket or the route.
     TooLong,
-    /// The system has no room for it.
+    /// The system's buffers are full.
     NoRoom,
-    /// Nobody is at the port that an earlier one went to.
+    /// An earlier one went to a port that nobody has bound.
     PortClosed,
 }
 
-/// How many datagrams were lost, by kind. Each count goes up to the greatest u64.
+/// How many datagrams were lost on their way out, by kind. Each count stops at the greatest u64.
 #[derive(Clone, Copy, Debug, PartialEq, Eq)]
 pub struct Losses {
-    /// Those to which no way led.
+    /// Those without a route, or with the network or the host down.
     pub no_way: u64,
-    /// Those that weren't allowed to go.
+    /// Those that the system denied.
     pub denied: u64,
-    /// Those that were too long for their way.
+    /// Those that were too long.
     pub too_long: u64,
-    /// Those for which the system had no room.
+    /// Those for which the system's buffers were full.
     pub no_room: u64,
-    /// Those that met a port at which nobody is.
+    /// Those to a port that nobody has bound.
     pub port_closed: u64,
 }
 
 impl Losses {
-    /// Nothing was lost yet.
+    /// Returns counts of 0.
     pub fn none() -> Losses
         ensures { result ≡ no_losses }
     {
@@ -71,8 +71,9 @@ fn one_more(count: u64) -> u64
     count.saturating_add(1)
 }
 
-/// Which kind of loss the system tells by this error, or None where it tells a failure. To a send `WouldBlock` is that the socket has no room; to a receive it is
-/// that nothing is there, which is no loss: the caller asks for that first. What is lost is asked for again; so a cable that is pulled ends no member.
+/// Returns the kind of loss that the system tells by this error, or `None` for a failure. `WouldBlock` counts as full buffers, so a caller that received has to ask for it before.
+///
+/// A lost datagram is requested again, so a cable that is pulled ends no member.
 pub fn loss_of(error: &io::Error) -> Option<Loss>
     ensures { result ≡ loss_of error.now }
 {
@@ -83,14 +84,14 @@ pub fn loss_of(error: &io::Error) -> Option<Loss>
     }
 }
 
-/// Whether the system says no more by this than that a datagram was lost, or to a receive that nothing is there: whether [`loss_of`] it is one.
+/// Returns whether [`loss_of`] an error is a kind of loss.
 pub fn is_loss(error: &io::Error) -> bool
     ensures { IsTrue result ↔ IsLoss error.now }
 {
     loss_of(error).is_some()
 }
 
-// The kind of loss that Linux tells by a number.
+// Returns the kind of loss that Linux tells by a number.
 fn loss_by_number(number: Option<i32>) -> Option<Loss>
     ensures { result ≡ loss_by_number number }
 {

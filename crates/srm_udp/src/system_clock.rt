@@ -5,7 +5,7 @@ use std::marker::Model;
 use std::time::Instant;
 use std::{io, time};
 
-/// Microseconds since this clock was made, by the system's monotonic clock: they never fall. Contracts see the moment that it told last.
+/// The microseconds since this clock was made, by the system's monotonic clock. They never fall.
 #[derive(Drop)]
 pub struct SystemClock<R: time::Clock + Drop> {
     rt: R,
@@ -22,7 +22,7 @@ impl<R: time::Clock + Drop> Model for SystemClock<R> {
 }
 
 impl<R: time::Clock + Drop> SystemClock<R> {
-    /// A clock that starts now. Refused is what the system refuses.
+    /// Starts a clock at 0. Fails with the system's error if it can't read its own.
     pub fn new(rt: R) -> io::Result<SystemClock<R>> {
         let start = Instant::now(&rt)?;
         Ok(SystemClock { rt, start, last: 0 })
@@ -34,7 +34,7 @@ impl<R: time::Clock + Drop> Clock for SystemClock<R> {
 
     ghost reads = { NeverFalls };
 
-    /// Where the system can't be read it tells the last moment again: time stands still then.
+    /// Returns the microseconds since the clock was started, or the last moment again if the system can't read its clock.
     fn now(&mut self) -> u64 {
         let told = match self.start.elapsed(&self.rt) {
             Ok(time) => u64::try_from(time.as_micros()).unwrap_or(u64::MAX),

@@ -2,7 +2,7 @@
 
 mod five;
 
-use crate::{Loss, Losses, SystemClock, UdpWire, is_loss, loss_of};
+use crate::{Dropped, Loss, Losses, SystemClock, UdpWire, is_loss, loss_of};
 use mio::net::UdpSocket;
 use srm_names::Member;
 use srm_wire::{Clock, Wire, WireFault};
@@ -362,6 +362,108 @@ fn a_wake_takes_no_datagram_away(rt: HostRuntime) -> Result<(), Fail> {
     near.pause(20_000_000);
     assert_comes(&rt, &mut near, b"hi");
     assert_nothing(&rt, &mut near);
+    Ok(())
+}
+
+/// Sends so many bytes, which rise from 0 and begin again, each as a datagram.
+fn send_rising<R: Abort>(rt: &R, wire: &mut UdpWire, to: u8, count: u16) {
+    for number in 0..count {
+        assert_sends(rt, wire, to, &[number.to_be_bytes()[1]]);
+    }
+}
+
+/// So many bytes come, which rise from 0 and begin again, each as a datagram.
+fn assert_come_rising<R: Abort>(rt: &R, wire: &mut UdpWire, count: u16) {
+    for number in 0..count {
+        assert_comes(rt, wire, &[number.to_be_bytes()[1]]);
+    }
+}
+
+#[test]
+fn what_waits_comes_in_order(rt: HostRuntime) -> Result<(), Fail> {
+    let (mut near, mut far) = pair(&rt, rt.alloc())?;
+    send_rising(&rt, &mut near, 1, 150);
+    assert_come_rising(&rt, &mut far, 150);
+    assert_nothing(&rt, &mut far);
+    Ok(())
+}
+
+// A socket's usual buffer holds some hundreds of these: what came is taken in behind each sixteenth send.
+#[test]
+fn what_comes_between_sends_waits(rt: HostRuntime) -> Result<(), Fail> {
+    let (mut near, mut far) = pair(&rt, rt.alloc())?;
+    for _ in 0..40u8 {
+        send_rising(&rt, &mut near, 1, 256);
+        send_rising(&rt, &mut far, 0, 32);
+    }
+    for _ in 0..40u8 {
+        assert_come_rising(&rt, &mut far, 256);
+    }
+    assert_nothing(&rt, &mut far);
+    assert_eq!(rt; far.dropped(), Dropped::none());
+    Ok(())
+}
+
+// 40,960 come, and 32,768 may wait: the newest are dropped.
+#[test]
+fn what_finds_no_room_is_counted(rt: HostRuntime) -> Result<(), Fail> {
+    let (mut near, mut far) = pair(&rt, rt.alloc())?;
+    for _ in 0..160u8 {
+        send_rising(&rt, &mut near, 1, 256);
+        send_rising(&rt, &mut far, 0, 16);
+    }
+    for _ in 0..128u8 {
+        assert_come_rising(&rt, &mut far, 256);
+    }
+    assert_nothing(&rt, &mut far);
+    let dropped = far.dropped();
+    assert_eq!(rt; (dropped.strangers, dropped.overflowed), (0, 8_192));
+    Ok(())
+}
+
+#[test]
+fn a_pause_ends_at_once_where_something_waits(rt: HostRuntime) -> Result<(), Fail> {
+    let (mut near, mut far) = pair(&rt, rt.alloc())?;
+    let mut clock = SystemClock::new(rt)?;
+    assert_nothing(&rt, &mut far);
+    send_rising(&rt, &mut near, 1, 3);
+    send_rising(&rt, &mut far, 0, 16);
+    for number in 0..3 {
+        assert!(rt; time_of_pause(&mut far, &mut clock, 10_000_000) < 5_000_000);
+        assert_comes(&rt, &mut far, &[number]);
+    }
+    Ok(())
+}
+
+/// A wire of nobody to the first address of these.
+fn stranger_to(rt: &impl Net, alloc: Global, wire: &UdpWire) -> io::Result<UdpWire> {
+    wire_to(rt, alloc, wire.local_address()?)
+}
+
+#[test]
+fn strangers_are_heard_until_it_keeps_to_its_roster(rt: HostRuntime) -> Result<(), Fail> {
+    let alloc = rt.alloc();
+    let (mut near, mut far) = pair(&rt, alloc)?;
+    let mut stranger = stranger_to(&rt, alloc, &far)?;
+    assert_sends(&rt, &mut stranger, 0, b"early");
+    assert_comes(&rt, &mut far, b"early");
+    far.keep_to_roster();
+    for datagram in [b"one", b"two"] {
+        assert_sends(&rt, &mut stranger, 0, datagram);
+    }
+    assert_sends(&rt, &mut near, 1, b"known");
+    assert_comes(&rt, &mut far, b"known");
+    assert_nothing(&rt, &mut far);
+    assert_eq!(rt;
+        (far.dropped(), far.failures()),
+        (
+            Dropped {
+                strangers: 2,
+                overflowed: 0
+            },
+            0
+        )
+    );
     Ok(())
 }
 

@@ -1,10 +1,14 @@
 //! A wire over UDP.
 
-ghost use Rattle.std.specs.Prelude.{◌≡◌, ◌<◌, ◌≤◌, [], None, length, vec_len, true, is_err, is_none, Ok, IfOk, IfSome, IsErr};
-ghost use Rattle.srm_wire.specs.Wires.{CountsIf, TellsMore, answered, sent_by};
-ghost use Rattle.srm_udp.specs.Udp.{CountsEach, CountsReceive, after_error, after_receive, after_send, answer_of, new_wire, one_more_failure, received, send_fails};
+ghost use Rattle.std.specs.Prelude.{◌≡◌, ◌<◌, ◌≤◌, [], Some, None, length, true, is_err, is_none, IfOk, IfSome, IsErr};
+ghost use Rattle.srm_wire.specs.Wires.{CountsIf, TellsMore, answered, bytes_to, sent_by};
+ghost use Rattle.srm_udp.specs.Inboxes.{GivesNext, NextFits, TakesIn};
+ghost use Rattle.srm_udp.specs.Udp.{AnswersNext, CountsEach, CountsReceive, ReceivesNext, SendsOne, after_error, after_next, after_send, new_wire, one_more_failure, send_fails, with_inbox};
 
+use crate::dropped::Dropped;
+use crate::inbox::{Inbox, Next};
 use crate::loss::{Loss, Losses, loss_of};
+use crate::room::ask_for_room;
 use crate::wire_waker::WireWaker;
 use mio::net::UdpSocket;
 use mio::{Events, Interest, Poll, Token};
@@ -23,16 +27,30 @@ const SOCKET: Token = Token(0);
 
 const WAKER: Token = Token(1);
 
-/// A member's wire over UDP: a socket that is bound once and never waits, but in a pause, which another thread may end. Where a datagram comes from isn't
-/// looked at. It counts its failures, and by kind what the system says was lost. It doesn't tell.
+/// Bytes of the longest datagram, and more.
+const LONGEST: usize = 65_536;
+
+/// Sends and receives after which it takes in what lies in the socket.
+const CALLS: u8 = 16;
+
+/// A member's wire over UDP: a bound socket that never blocks but in [`pause`](UdpWire::pause), which another thread may end. It counts its failures, and by kind what the
+/// system says was lost.
+///
+/// It asks the system for 4 MiB of receive buffer, and moves what lies in the socket into its own queue as the node receives and between sends, so a burst isn't lost
+/// because the system's buffer is small. The queue has room for 32,768 datagrams and 3.75 to 4 MiB; what comes beyond is dropped and counted. All memory is allocated as the wire is
+/// made.
 #[derive(Drop)]
 pub struct UdpWire {
     socket: UdpSocket,
-    addresses: Vec<SocketAddr>,
+    inbox: Inbox,
+    // Where the system puts a datagram.
+    room: Vec<u8>,
+    // Sends and receives since it took in what lay in the socket.
+    calls: u8,
     poll: Poll,
     events: Events<Global>,
     waker: Arc<WireWaker, Global>,
-    // Whether the last `receive` found nothing, and no pause found more since. The poll reports once what comes after that.
+    // Whether the socket was found empty, and no pause found more since.
     drained: bool,
     failures: u64,
     losses: Losses,
@@ -40,24 +58,23 @@ pub struct UdpWire {
 
 impl Model for UdpWire {
     ghost use Rattle.srm_udp.specs.Udp.{UdpView};
-    ghost use Rattle.std.specs.Prelude.{vec_len};
 
     ghost Value = { UdpView };
 
-    ghost view = { λ w. record { members = vec_len w.addresses; failures = w.failures; losses = w.losses } };
+    ghost view = { λ w. record { inbox = w.inbox; failures = w.failures; losses = w.losses } };
 }
 
 impl UdpWire {
-    /// Binds a socket to the address of a member, to send to the members at these addresses, by number. Refused is what the system refuses,
-    /// a member without an address, and want of memory.
+    /// Binds a socket to the address of member `me`, and returns its wire to the members at `addresses`, by number. Fails with `InvalidInput` if `me` has no address there,
+    /// with `OutOfMemory` if there are not some 5 MB, and with the system's error if it refuses to bind or to poll.
     pub fn bind(
         rt: &impl Net,
         alloc: Global,
         me: Member,
         addresses: Vec<SocketAddr>,
     ) -> io::Result<UdpWire>
-        ensures new { IfOk result (λ w. w ≡ new_wire (vec_len addresses)) }
-        ensures place { IfOk result (λ w. me < w.members) }
+        ensures new { IfOk result (λ w. w ≡ new_wire addresses.items) }
+        ensures place { IfOk result (λ w. me < length w.inbox.roster) }
     {
         let Some(own) = addresses.get(me.index()).copied() else {
             return Err(io::Error::from(ErrorKind::InvalidInput));
@@ -66,16 +83,17 @@ impl UdpWire {
         UdpWire::over(rt, alloc, socket, addresses)
     }
 
-    /// A wire over a socket that was bound, to the members at these addresses, by number. Refused is what the system refuses, and want of memory.
+    /// Returns a wire over a bound socket to the members at `addresses`, by number. Fails with `OutOfMemory` if there are not some 5 MB, and with the system's error if it refuses to poll.
     pub fn over(
         rt: &impl Net,
         alloc: Global,
         socket: UdpSocket,
         addresses: Vec<SocketAddr>,
     ) -> io::Result<UdpWire>
-        ensures { IfOk result (λ w. w ≡ new_wire (vec_len addresses)) }
+        ensures { IfOk result (λ w. w ≡ new_wire addresses.items) }
     {
         let mut socket = socket;
+        ask_for_room(&socket);
         let poll = Poll::new(rt)?;
         let events = Events::with_capacity(alloc, 2)?;
         poll.registry()
@@ -83,7 +101,9 @@ impl UdpWire {
         let waker = Arc::new(alloc, WireWaker::new(poll.registry(), WAKER)?)?;
         Ok(UdpWire {
             socket,
-            addresses,
+            inbox: Inbox::new(alloc, addresses)?,
+            room: vec![in alloc; 0; LONGEST]?,
+            calls: 0,
             poll,
             events,
             waker,
@@ -93,16 +113,47 @@ impl UdpWire {
         })
     }
 
-    /// What ends this wire's pauses from another thread. Only want of memory refuses it.
+    /// Returns what ends this wire's pauses from another thread. Fails only if out of memory.
     pub fn waker(&self) -> Result<Arc<WireWaker, Global>, AllocError> {
         Arc::try_clone(&self.waker)
     }
 
-    /// How many datagrams were lost so far, as far as the system told, by kind.
+    /// Returns how many datagrams were lost so far, as far as the system told, by kind.
     pub fn losses(&self) -> Losses
         ensures { result ≡ self.now.losses }
     {
         self.losses
+    }
+
+    /// Drops and counts from now on what doesn't come from the address of a member. The system tells where a datagram comes from, and a sender may forge that. What waits already stays.
+    pub fn keep_to_roster(&mut self)
+        ensures { self.new ≡ record self.old { inbox = record self.old.inbox { only_roster = true } } }
+    {
+        self.inbox.keep_to_roster();
+    }
+
+    /// Returns the address that the socket is bound to, with the port that the system chose if it was to choose one. Fails with the system's error.
+    pub fn local_address(&self) -> io::Result<SocketAddr> {
+        self.socket.local_addr()
+    }
+
+    /// Returns how many datagrams were dropped so far, by cause.
+    pub fn dropped(&self) -> Dropped
+        ensures { result ≡ self.now.inbox.dropped }
+    {
+        self.inbox.dropped()
+    }
+
+    // Takes in what lies in the socket, if that is due or wasn't done for long.
+    fn look(&mut self, is_due: bool)
+        ensures takes { TakesIn self.old.inbox self.new.inbox }
+        ensures rest { self.new ≡ with_inbox self.new.inbox self.old }
+    {
+        self.calls = self.calls.saturating_add(1);
+        if is_due || self.calls >= CALLS {
+            self.calls = 0;
+            self.drained = self.inbox.take_in(&self.socket, self.room.as_mut_slice());
+        }
     }
 
     // Counts a failure.
@@ -113,12 +164,14 @@ impl UdpWire {
         count_failure(&mut self.failures)
     }
 
+    #[tactic(auto, using(crate::proofs::Counting::loss_counted, crate::proofs::Counting::failure_counted))]
     // Counts a loss of this kind, or else a failure.
     fn count(&mut self, loss: Option<Loss>) -> Result<(), WireFault>
         ensures one { self.new ≡ after_error loss self.old }
         ensures failed { is_err result ≡ is_none loss }
         ensures failures { CountsIf (is_err result) self.old.failures self.new.failures }
         ensures each { CountsEach result self.old self.new }
+        ensures inbox { self.new.inbox ≡ self.old.inbox }
     {
         match loss {
             Some(loss) => {
@@ -129,12 +182,14 @@ impl UdpWire {
         }
     }
 
+    #[tactic(auto, using(crate::proofs::Counting::none_counted, crate::proofs::Counting::failure_counted))]
     // Counts what the system answers to a send of so many bytes.
     fn settle_send(&mut self, length: usize, answer: io::Result<usize>) -> Result<(), WireFault>
         ensures one { self.new ≡ after_send length answer self.old }
         ensures failed { is_err result ≡ send_fails length answer }
         ensures failures { CountsIf (is_err result) self.old.failures self.new.failures }
         ensures each { CountsEach result self.old self.new }
+        ensures inbox { self.new.inbox ≡ self.old.inbox }
     {
         match answer {
             Ok(count) if count == length => Ok(()),
@@ -143,68 +198,112 @@ impl UdpWire {
         }
     }
 
-    // Counts what the system answers to a receive.
-    fn settle_receive(&mut self, answer: io::Result<usize>) -> Result<Option<usize>, WireFault>
-        ensures one { self.new ≡ after_receive answer self.old }
-        ensures answer { answer_of result ≡ received answer }
-        ensures came { IfOk result (λ some. IfSome some (λ count. answer ≡ Ok count)) }
+    // Sends bytes to an address, and counts what the system answers.
+    fn send_to(&mut self, address: SocketAddr, datagram: &[u8]) -> Result<(), WireFault>
+        ensures failures { CountsIf (is_err result) self.old.failures self.new.failures }
+        ensures each { CountsEach result self.old self.new }
+        ensures inbox { self.new.inbox ≡ self.old.inbox }
+    {
+        let answer = self.socket.send_to(datagram, address);
+        self.settle_send(datagram.len(), answer)
+    }
+
+    #[tactic(auto, using(crate::proofs::Counting::none_counted))]
+    // Returns what comes next, and counts an error.
+    fn settle_next(&mut self, next: Next) -> Result<Option<usize>, WireFault>
+        ensures one { self.new ≡ after_next next self.old }
+        ensures answer { AnswersNext next result }
+        ensures came { IfOk result (λ some. IfSome some (λ count. next ≡ Next.Datagram (Some count))) }
         ensures failures { CountsIf (is_err result) self.old.failures self.new.failures }
         ensures each { CountsReceive result self.old self.new }
     {
-        match answer {
-            Ok(count) => Ok(Some(count)),
-            Err(error) if error.kind() == ErrorKind::WouldBlock => Ok(None),
-            Err(error) => {
-                self.count(loss_of(&error))?;
+        match next {
+            Next::Datagram(count) => Ok(count),
+            Next::Failed(error) => {
+                self.count(error)?;
                 Ok(None)
             }
+        }
+    }
+
+    // Moves the next datagram into a buffer.
+    fn next(&mut self, buffer: &mut [u8]) -> Next
+        ensures gives { GivesNext buffer.new result self.old.inbox self.new.inbox }
+        ensures fits { NextFits buffer.new result }
+        ensures rest { self.new ≡ with_inbox self.new.inbox self.old }
+    {
+        self.inbox.next(buffer)
+    }
+}
+
+impl UdpWire {
+    #[tactic(auto, using(crate::proofs::Counting::each_behind, crate::proofs::Counting::failure_counted))]
+    // Takes in what lies in the socket where that is due, and sends bytes to a member.
+    fn send_counted(&mut self, to: Member, datagram: &[u8]) -> Result<(), WireFault>
+        ensures failures { CountsIf (is_err result) self.old.failures self.new.failures }
+        ensures takes { TakesIn self.old.inbox self.new.inbox }
+        ensures each { CountsEach result self.old self.new }
+        ensures stranger { length self.old.inbox.roster ≤ to → IsErr result }
+    {
+        let address = self.inbox.address(to.index());
+        self.look(false);
+        match address {
+            Some(address) => self.send_to(address, datagram),
+            None => Err(self.fail()),
         }
     }
 }
 
 impl Wire for UdpWire {
+    ghost use Rattle.std.specs.Prelude.{◌≡◌, None};
+    ghost use Rattle.srm_udp.specs.Udp.{ReceivesNext, SendsOne};
+
     ghost failure_count = { λ w. w.failures };
 
     ghost told = { λ w. None };
 
-    /// One call of the system, which copies the bytes from where they lie. A member without an address is a failure, and a datagram that the
-    /// system cuts. What the system says was lost is counted by its kind.
+    ghost sends = { λ w sent failed h. SendsOne sent failed w h };
+
+    ghost receives = { λ w room answer h. ReceivesNext room answer w h };
+
+    ghost pauses = { λ w micros h. h ≡ w };
+
+    #[tactic(auto, using(crate::proofs::Counting::sends_one))]
+    /// Sends a datagram of at most 65,507 bytes by one call of the system, without copying it. What the system says was lost is counted by its kind, and is no error. Fails, and counts a failure, if the
+    /// member has no address, the system sends only a part, or its error is no loss. Before each sixteenth call it takes in what lies in the socket.
     fn send(&mut self, to: Member, datagram: &[u8]) -> Result<(), WireFault>
         ensures failures { CountsIf (is_err result) self.old.failures self.new.failures }
         ensures each { CountsEach result self.old self.new }
         ensures tells { TellsMore [] (sent_by to datagram.now result) None None }
-        ensures stranger { self.old.members ≤ to → IsErr result }
+        ensures sends { SendsOne (bytes_to to datagram.now) (is_err result) self.old self.new }
     {
-        let Some(address) = self.addresses.get(to.index()) else {
-            return Err(self.fail());
-        };
-        let answer = self.socket.send_to(datagram, *address);
-        self.settle_send(datagram.len(), answer)
+        self.send_counted(to, datagram)
     }
 
-    /// One call of the system, which copies the bytes to where they stay. What is longer than the buffer is cut to it. A word on an earlier send is counted as a loss of its
-    /// kind, and nothing came then.
+    #[tactic(auto, using(crate::proofs::Counting::receive_behind, crate::proofs::Counting::looked_on, crate::proofs::Counting::receives_next, crate::proofs::Counting::within_next))]
+    /// Moves the oldest datagram that waits into the buffer, cut to it, and returns how many bytes that are. If none waits, and at each sixteenth call, it first takes in what lies in the socket, by one call of the
+    /// system a datagram and one more. An error that the system told meanwhile comes before all datagrams, once: a loss is counted by its kind, and nothing came then; any other is a failure. It never waits
+    /// and allocates nothing.
     fn receive(&mut self, buffer: &mut [u8]) -> Result<Option<usize>, WireFault>
         ensures within { IfOk result (λ some. IfSome some (λ count. count ≤ length buffer.new)) }
         ensures failures { CountsIf (is_err result) self.old.failures self.new.failures }
         ensures each { CountsReceive result self.old self.new }
         ensures tells { TellsMore (answered buffer.new result) [] None None }
+        ensures receives { ReceivesNext (length buffer.new) (answered buffer.new result) self.old self.new }
     {
-        let answer = match self.socket.recv_from(buffer) {
-            Ok((count, _)) => Ok(count),
-            Err(error) => Err(error),
-        };
-        self.drained = finds_nothing(&answer);
-        self.settle_receive(answer)
+        let is_due = self.inbox.is_empty();
+        self.look(is_due);
+        let next = self.next(buffer);
+        self.settle_next(next)
     }
 
-    /// Waits until a datagram came, its waker was called, or so many microseconds went by, rounded up to whole milliseconds. It waits only behind a `receive`
-    /// that found nothing, what is there already being no news to the system, and only where no wake came since the last pause.
+    /// Waits until a datagram came, another thread woke it, or `micros` microseconds went by, rounded up to whole milliseconds. Returns at once if a datagram or an error waits,
+    /// something was left in the socket, or a wake came since the last pause.
     fn pause(&mut self, micros: u64)
         ensures { self.new ≡ self.old }
     {
         let woken = self.waker.take();
-        if micros == 0 || woken || !self.drained {
+        if micros == 0 || woken || !self.drained || !self.inbox.is_empty() {
             return;
         }
         // A wait that the system refuses ends at once: the next `receive` tells why.
@@ -212,18 +311,11 @@ impl Wire for UdpWire {
             .poll
             .poll(&mut self.events, Some(Duration::from_micros(micros)));
         self.waker.take();
+        // The poll reports once what came since the socket was found empty.
         self.drained = !self.events.iter().any(|event| event.token() == SOCKET);
     }
 
     fn failures(&self) -> u64 {
         self.failures
-    }
-}
-
-// Whether nothing is there to be received, as opposed to a word on an earlier send.
-fn finds_nothing<T>(answer: &io::Result<T>) -> bool {
-    match answer {
-        Ok(_) => false,
-        Err(error) => error.kind() == ErrorKind::WouldBlock,
     }
 }

@@ -4,12 +4,11 @@ use mio::{Registry, Token, Waker};
 use std::io;
 use std::sync::atomic::{AtomicBool, Ordering};
 
-/// Ends the pause of a [`UdpWire`](crate::UdpWire) from another thread, so that what such a thread asks of a node isn't kept until a datagram comes or the pause is
-/// over. A wake that comes before a pause ends that pause at its beginning.
+/// Ends the pause of a [`UdpWire`](crate::UdpWire) from another thread, so that the node acts at once on what this thread asks.
 #[derive(Drop)]
 pub struct WireWaker {
     waker: Waker,
-    // Whether a wake came that no pause has seen yet: further ones cost no call of the system.
+    // Whether a wake came that no pause has seen yet. Further ones cost no call of the system.
     woken: AtomicBool,
 }
 
@@ -21,14 +20,14 @@ impl WireWaker {
         })
     }
 
-    /// Ends the pause that is under way, or else the next. It neither waits nor takes memory. Where the system refuses it the pause goes on to its end.
+    /// Ends the pause under way, or else the next one at its start. It never blocks and allocates nothing. If the system refuses, the pause goes on.
     pub fn wake(&self) {
         if !self.woken.swap(true, Ordering::SeqCst) {
             let _ = self.waker.wake();
         }
     }
 
-    // Whether a wake came since the last time that this was asked.
+    // Returns whether a wake came since the last call.
     pub(crate) fn take(&self) -> bool {
         self.woken.swap(false, Ordering::SeqCst)
     }
