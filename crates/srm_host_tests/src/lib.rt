@@ -3,6 +3,8 @@
 #![tactic(auto)]
 
 #[cfg(test)]
+mod commanding;
+#[cfg(test)]
 mod ending;
 #[cfg(test)]
 mod hosted;

@@ -67,11 +67,11 @@ pub heard_nothing : (now : ℕ) (bytes : List ℕ) (b c : Journal) (fault : Agen
 heard_nothing now bytes b c fault (inl (e, grows, hearing, answers)) = absurd answers
 heard_nothing now bytes b c fault (inr (is, same)) = same
 
-pub listened_fails : {X : Type 0} (R : Receiving X) (now n room : ℕ) (a b : Journal) (s t u : Option Told) (x y z : X) → n < DATAGRAMS_A_TURN → room ≡ BUFFER_BYTES → Listens R now n [] a b s t x y → TellsMore it_failed [] t u → R y room it_failed z → Listened R now true a b s u x z
-listened_fails R now n room a b s t u x y z few is h told did = record { count = n; last = it_failed ∷ []; listens = listens_last R now n room it_failed a b s t u x y z is h told did; ends = (few, refl) }
+pub listened_fails : {X : Type 0} (R : Receiving X) (now n room : ℕ) (a b : Journal) (s t u : Option Told) (x y z : X) → n < DATAGRAMS_A_TURN → room ≡ BUFFER_BYTES → Listens R now n [] a b s t x y → TellsMore it_failed [] t u → R y room it_failed z → Listened R now n true a b s u x z
+listened_fails R now n room a b s t u x y z few is h told did = record { last = it_failed ∷ []; listens = listens_last R now n room it_failed a b s t u x y z is h told did; ends = (few, refl) }
 
-pub listened_none : {X : Type 0} (R : Receiving X) (now n room : ℕ) (a b : Journal) (s t u : Option Told) (x y z : X) → n < DATAGRAMS_A_TURN → room ≡ BUFFER_BYTES → Listens R now n [] a b s t x y → TellsMore none_there [] t u → R y room none_there z → Listened R now false a b s u x z
-listened_none R now n room a b s t u x y z few is h told did = record { count = n; last = none_there ∷ []; listens = listens_last R now n room none_there a b s t u x y z is h told did; ends = inr (few, refl) }
+pub listened_none : {X : Type 0} (R : Receiving X) (now n room : ℕ) (a b : Journal) (s t u : Option Told) (x y z : X) → n < DATAGRAMS_A_TURN → room ≡ BUFFER_BYTES → Listens R now n [] a b s t x y → TellsMore none_there [] t u → R y room none_there z → Listened R now n false a b s u x z
+listened_none R now n room a b s t u x y z few is h told did = record { last = none_there ∷ []; listens = listens_last R now n room none_there a b s t u x y z is h told did; ends = inr (few, refl) }
 
 -- memory ran out, and what came last is lost
 pub listened_lost : {X : Type 0} (R : Receiving X) (now n room : ℕ) (bytes : List ℕ) (a b c : Journal) (s t u : Option Told) (x y z : X) (fault : AgentFault) → n < DATAGRAMS_A_TURN → room ≡ BUFFER_BYTES → Listens R now n [] a b s t x y → RecordsHeard now bytes b c (Err fault)

@@ -14,7 +14,7 @@ use Rattle.srm_node.specs.declared.hosting.Worker.{Worker}
 use Rattle.srm_node.specs.declared.working.Worked.{Worked}
 use Rattle.srm_node.specs.Parts.{SameFeed, SameFeeds}
 use Rattle.srm_node.specs.Nodes.{NodeView, NodeKeepsLists}
-use Rattle.srm_node.specs.Turns.{TurnToLeaving, TurnToTick, Turned, RunsOf, RunsToEnd}
+use Rattle.srm_node.specs.Turns.{TurnToLeaving, Turned, RunsOf, RunsToEnd}
 use Rattle.srm_node.specs.Calls.{Calls}
 use Rattle.srm_node.specs.Hosting.{Kinds, start_of, StartsSome, StopsBy, WorkedAs, WorkedEach, Joins, Hosts, HostsWith, HostFails, HostFailsWith, SameWell, AreEndsOfLanes}
 use Rattle.srm_node.proofs.Gives.{same_on}
@@ -66,8 +66,8 @@ feeds_left {X} {C} calls now unheard a b t = ap (λ (n : NodeView X C). n.feeds)
     ∙ ap (λ (n : NodeView X C). n.feeds) t.reads.same
 
 lanes_of_turn : {X C : Type 0} (calls : Calls X C) (a b : NodeView X C) → Turned calls false false a b → SameLanes a b
-lanes_of_turn {X} {C} calls a b t = let p = t.to_tick in lanes_on a t.ticked b
-    (lanes_kept a t.ticked (ap (λ (n : NodeView X C). n.feeds) p.ticks.same ∙ feeds_left calls p.now false a p.left p.to_leaving))
+lanes_of_turn {X} {C} calls a b t = let p = t.to_tick in let s = p.to_showing in lanes_on a t.ticked b
+    (lanes_kept a t.ticked (ap (λ (n : NodeView X C). n.feeds) p.ticks.same ∙ ap (λ (n : NodeView X C). n.feeds) s.shows.same ∙ feeds_left calls p.now false a s.left s.to_leaving))
     (record { slots = t.gives.gives.slots; same = t.gives.gives.same })
 
 lanes_of_turns : {X C : Type 0} (calls : Calls X C) (count : ℕ) (a b : NodeView X C) → RunsOf calls count a b → SameLanes a b
@@ -100,9 +100,9 @@ well_left {X} {C} calls now unheard a b t =
     (well_on t.looked.well t.drawn.well b.well drawn (well_kept t.drawn b (ap (λ (n : NodeView X C). n.well) t.leaves.same))))
 
 well_of_turn : {X C : Type 0} (calls : Calls X C) (a b : NodeView X C) → Turned calls false false a b → SameWell a.well b.well
-well_of_turn {X} {C} calls a b t = let p = t.to_tick in
-    let ticked : b.well ≡ p.left.well = ap (λ (n : NodeView X C). n.well) t.gives.same ∙ ap (λ (n : NodeView X C). n.well) p.ticks.same in
-    well_on a.well p.left.well b.well (well_left calls p.now false a p.left p.to_leaving) (well_kept p.left b ticked)
+well_of_turn {X} {C} calls a b t = let p = t.to_tick in let s = p.to_showing in
+    let ticked : b.well ≡ s.left.well = ap (λ (n : NodeView X C). n.well) t.gives.same ∙ ap (λ (n : NodeView X C). n.well) p.ticks.same ∙ ap (λ (n : NodeView X C). n.well) s.shows.same in
+    well_on a.well s.left.well b.well (well_left calls p.now false a s.left s.to_leaving) (well_kept s.left b ticked)
 
 well_of_turns : {X C : Type 0} (calls : Calls X C) (count : ℕ) (a b : NodeView X C) → RunsOf calls count a b → SameWell a.well b.well
 well_of_turns {X} {C} calls zero a b h = well_kept a b (ap (λ (n : NodeView X C). n.well) h)

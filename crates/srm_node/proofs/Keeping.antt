@@ -1,16 +1,20 @@
 -- A node's lists hang together after each part of a turn.
 use Rattle.std.proofs.Common.{◌≡◌, ℕ, Bool, true, false, List, [], ◌∷◌, ◌++◌, refl, ap, sym, ◌∙◌, subst, append_assoc, arith}
-use Rattle.std.specs.Prelude.{Option, None, Result, Ok, Err, MatchResult, map, option_to_list, if◌then◌else◌}
+use Rattle.std.specs.Prelude.{Option, Some, None, Result, Ok, Err, MatchResult, map, option_to_list, if◌then◌else◌}
 use Rattle.std.specs.List.{AllByRecursion, cons_option}
 use Rattle.std.proofs.lemmas.List.{append-nil, map-append}
 use Rattle.std.proofs.lemmas.List.Elements.{filter_map-append}
 use Rattle.srm_names.specs.declared.limits.TheConstants.{PAGES}
+use Rattle.srm_names.specs.declared.page.Page.{Page}
 use Rattle.srm_names.specs.declared.page_msg.PageMsg.{PageMsg}
 use Rattle.srm_names.proofs.Lists.{at_place}
 use Rattle.srm_pages.specs.declared.stroke.Stroke.{Stroke}
 use Rattle.srm_pages.specs.Ends.{FeedView, TapView, WellView, AreLanes}
 use Rattle.srm_pages.specs.Seats.{LookoutView}
 use Rattle.std.proofs.lemmas.Option.{slice_get_within}
+use Rattle.srm_control.specs.declared.command.PageCommand.{PageCommand}
+use Rattle.srm_control.specs.declared.command.PageRefusal.{PageRefusal}
+use Rattle.srm_control.specs.Ends.{CommandsView}
 use Rattle.srm_codec.specs.declared.datagram.Datagram.{Datagram}
 use Rattle.srm_codec.specs.declared.fault.DecodeFault.{DecodeFault}
 use Rattle.srm_outbox.specs.declared.out.Out.{Out}
@@ -35,6 +39,7 @@ use Rattle.srm_node.specs.declared.fault.OutOfMemory.{OutOfMemory}
 use Rattle.srm_wire.specs.Wires.{Told, answered_with}
 use Rattle.srm_node.specs.Carrying.{Carries, CarriesEach, drew, draw_inputs, drawing, DrawsReceived, KeepsLists}
 use Rattle.srm_node.specs.Parts.{Listens, Listened, ListenedCut, DrawsStrokes, DrewStrokes, DrewStrokesCut, Leaves, Ticks, GivesUpTo, GaveSome, is_give}
+use Rattle.srm_node.specs.Showing.{page_of, CarriesOut, ObeysFound, ShowsAsked, ShowsAskedCut}
 use Rattle.srm_node.specs.Nodes.{NodeView, IsNode, AreNewFeeds, has_closed}
 use Rattle.srm_node.specs.declared.listening.Listening.{Listening}
 use Rattle.srm_node.specs.declared.drawing.Drawn.{Drawn}
@@ -115,8 +120,8 @@ node_hears R now n k failures told wire config room closed count last h lawful l
 }
 
 pub node_listened : {X C : Type 0} (R : X → ℕ → List (Option (List ℕ)) → X → Type 0) (now : ℕ) (n : NodeView X C) (k : Journal) (failures : ℕ) (told : Option Told) (wire : X) (config : Config) (room : ℕ) (closed : List Bool) (r : Result Listening OutOfMemory) → IsNode n config room closed → IsLawfulJournal k
-    → MatchResult r (λ l. Listened R now l.failed n.journal k n.told told n.wire wire) (λ _. ListenedCut R now n.journal k n.told told n.wire wire) → IsNode (record n { journal = k; failures = failures; told = told; wire = wire }) config room closed
-node_listened R now n k failures told wire config room closed (Ok l) h lawful x = node_hears R now n k failures told wire config room closed x.count x.last h lawful x.listens
+    → MatchResult r (λ l. Listened R now l.count l.failed n.journal k n.told told n.wire wire) (λ _. ListenedCut R now n.journal k n.told told n.wire wire) → IsNode (record n { journal = k; failures = failures; told = told; wire = wire }) config room closed
+node_listened R now n k failures told wire config room closed (Ok l) h lawful x = node_hears R now n k failures told wire config room closed l.count x.last h lawful x.listens
 node_listened R now n k failures told wire config room closed (Err e) h lawful x = node_hears R now n k failures told wire config room closed x.count (answered_with x.lost ∷ []) h lawful x.listens
 
 -- READING THE CLOCK, AND WAITING
@@ -187,10 +192,10 @@ node_drawn now count none_found n k well from hand config room closed h lawful s
       closed_are = h.closed_are;
     }
 
-pub node_drew : {X C : Type 0} (now : ℕ) (n : NodeView X C) (k : Journal) (well : WellView) (from hand : Option Stroke) (config : Config) (room : ℕ) (closed : List Bool) (r : Result Drawn OutOfMemory) → IsNode n config room closed → IsLawfulJournal k → from ≡ n.hand
-    → MatchResult r (λ drawn. DrewStrokes now drawn.none_left n.journal k n.well well from hand) (λ _. DrewStrokesCut now n.journal k n.well well from hand) → IsNode (record n { journal = k; well = well; hand = hand }) config room closed
-node_drew now n k well from hand config room closed (Ok drawn) h lawful same x = node_drawn now x.count drawn.none_left n k well from hand config room closed h lawful same x.draws
-node_drew now n k well from hand config room closed (Err e) h lawful same x = node_drawn now x.count false n k well from hand config room closed h lawful same x.draws
+pub node_drew : {X C : Type 0} (now most : ℕ) (n : NodeView X C) (k : Journal) (well : WellView) (from hand : Option Stroke) (config : Config) (room : ℕ) (closed : List Bool) (r : Result Drawn OutOfMemory) → IsNode n config room closed → IsLawfulJournal k → from ≡ n.hand
+    → MatchResult r (λ drawn. DrewStrokes now most drawn.none_left n.journal k n.well well from hand) (λ _. DrewStrokesCut now most n.journal k n.well well from hand) → IsNode (record n { journal = k; well = well; hand = hand }) config room closed
+node_drew now most n k well from hand config room closed (Ok drawn) h lawful same x = node_drawn now x.count drawn.none_left n k well from hand config room closed h lawful same x.draws
+node_drew now most n k well from hand config room closed (Err e) h lawful same x = node_drawn now x.count false n k well from hand config room closed h lawful same x.draws
 
 -- LEAVING AND TICKING
 
@@ -212,6 +217,42 @@ pub node_leaves : {X C : Type 0} (now : ℕ) (leaves : Bool) (n : NodeView X C) 
     → IsNode (record n { journal = k; asked = asked }) config room closed
 node_leaves now leaves n k asked config room closed (Ok u) h lawful l = node_left now leaves n k asked config room closed h lawful l
 node_leaves now leaves n k asked config room closed (Err e) h lawful same = subst (λ x. IsNode (record n { journal = x; asked = asked }) config room closed) (sym same) (record { lists = h.lists; settings = h.settings; room_is = h.room_is; closed_are = h.closed_are })
+
+-- SHOWING
+
+quiet_shown : (page : Page) (e : Entry) → e.input ≡ Showed page → AreQuiet (e ∷ [])
+quiet_shown page e is = (subst Quiet (sym is) (refl, λ slot m. refl), tt)
+
+node_same : {X C : Type 0} (n : NodeView X C) (k : Journal) (control : Option CommandsView) (config : Config) (room : ℕ) (closed : List Bool) → IsNode n config room closed → k ≡ n.journal → IsNode (record n { journal = k; control = control }) config room closed
+node_same n k control config room closed h same = subst (λ x. IsNode (record n { journal = x; control = control }) config room closed) (sym same) (record { lists = h.lists; settings = h.settings; room_is = h.room_is; closed_are = h.closed_are })
+
+node_carried : {X C : Type 0} (now : ℕ) (page : Option Page) (outcome : Result Page PageRefusal) (n : NodeView X C) (k : Journal) (control : Option CommandsView) (config : Config) (room : ℕ) (closed : List Bool) → IsNode n config room closed → IsLawfulJournal k → CarriesOut now page outcome n.journal k
+    → IsNode (record n { journal = k; control = control }) config room closed
+node_carried now None outcome n k control config room closed h lawful (none, same) = node_same n k control config room closed h same
+node_carried now (Some page) outcome n k control config room closed h lawful s = record {
+  lists = keeps_quiet n.journal k (s.entry ∷ []) n.feeds n.well.received n.hand h.lists lawful s.grown (quiet_shown page s.entry s.input);
+  settings = settings_of n.journal k (s.entry ∷ []) s.grown ∙ h.settings;
+  room_is = h.room_is;
+  closed_are = h.closed_are;
+}
+
+node_obeyed : {X C : Type 0} (now : ℕ) (found : Option PageCommand) (n : NodeView X C) (k : Journal) (seen to : CommandsView) (control : Option CommandsView) (config : Config) (room : ℕ) (closed : List Bool) → IsNode n config room closed → IsLawfulJournal k → ObeysFound now found n.journal k seen to
+    → IsNode (record n { journal = k; control = control }) config room closed
+node_obeyed now None n k seen to control config room closed h lawful (same, still) = node_same n k control config room closed h same
+node_obeyed now (Some command) n k seen to control config room closed h lawful o = node_carried now (page_of n.journal.start.config n.journal.entries command) o.outcome n k control config room closed h lawful o.out
+
+node_asked : {X C : Type 0} (now : ℕ) (n : NodeView X C) (k : Journal) (from to : Option CommandsView) (config : Config) (room : ℕ) (closed : List Bool) → IsNode n config room closed → IsLawfulJournal k → ShowsAsked now n.journal k from to → IsNode (record n { journal = k; control = to }) config room closed
+node_asked now n k None to config room closed h lawful (same, none) = node_same n k to config room closed h same
+node_asked now n k (Some from) to config room closed h lawful (next, is, o) = node_obeyed now o.found n k o.seen next to config room closed h lawful o.obeys
+
+node_asked_not : {X C : Type 0} (n : NodeView X C) (k : Journal) (from to : Option CommandsView) (config : Config) (room : ℕ) (closed : List Bool) → IsNode n config room closed → ShowsAskedCut n.journal k from to → IsNode (record n { journal = k; control = to }) config room closed
+node_asked_not n k None to config room closed h cut = absurd cut
+node_asked_not n k (Some from) to config room closed h (next, is, o) = node_same n k to config room closed h o.same
+
+pub node_showed : {X C : Type 0} (now : ℕ) (n : NodeView X C) (k : Journal) (from to : Option CommandsView) (config : Config) (room : ℕ) (closed : List Bool) (r : Result Bool OutOfMemory) → IsNode n config room closed → IsLawfulJournal k
+    → MatchResult r (λ _. ShowsAsked now n.journal k from to) (λ _. ShowsAskedCut n.journal k from to) → IsNode (record n { journal = k; control = to }) config room closed
+node_showed now n k from to config room closed (Ok some) h lawful s = node_asked now n k from to config room closed h lawful s
+node_showed now n k from to config room closed (Err e) h lawful s = node_asked_not n k from to config room closed h s
 
 pub node_ticked : {X C : Type 0} (now : ℕ) (n : NodeView X C) (k : Journal) (failures : ℕ) (told : Option Told) (wire : X) (config : Config) (room : ℕ) (closed : List Bool) (outs : List Out) → IsNode n config room closed → IsLawfulJournal k → Ticks now outs n.journal k
     → IsNode (record n { journal = k; failures = failures; told = told; wire = wire }) config room closed

@@ -6,6 +6,8 @@ pub mod Draws
 pub mod Gives
 pub mod Releasing
 pub mod Ticks
+pub mod Shows
+pub mod Obeying
 pub mod Closing
 pub mod Keeping
 pub mod Waiting

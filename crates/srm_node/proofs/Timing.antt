@@ -1,21 +1,26 @@
 -- The moments of a turn's entries, part by part.
 use Rattle.std.proofs.Common.{◌≡◌, ℕ, true, false, List, [], ◌∷◌, ◌++◌, ap, sym, ◌∙◌, subst, inl, inr, append_assoc}
-use Rattle.std.specs.Prelude.{Bool, Option, map, if◌then◌else◌, Result, Ok, Err, IfOk}
+use Rattle.std.specs.Prelude.{Bool, Option, Some, None, map, if◌then◌else◌, Result, Ok, Err, IfOk}
 use Rattle.std.specs.List.{AllByRecursion}
 use Rattle.std.proofs.lemmas.List.{append-nil}
+use Rattle.srm_names.specs.declared.page.Page.{Page}
+use Rattle.srm_control.specs.declared.command.PageCommand.{PageCommand}
+use Rattle.srm_control.specs.declared.command.PageRefusal.{PageRefusal}
+use Rattle.srm_control.specs.Ends.{CommandsView}
 use Rattle.srm_entries.specs.declared.entry.Entry.{Entry}
 use Rattle.srm_entries.specs.declared.entry.Input.TheVariants.{AskedLeave}
 use Rattle.srm_world.specs.Traces.{Journal}
 use Rattle.srm_world.specs.WaitWords.{RecorderView}
 use Rattle.srm_entries.specs.Configs.{Config}
 use Rattle.srm_world.specs.Recording.{with_entry, with_entries, IsAt, IsHearing, EntersEach}
-use Rattle.srm_world.proofs.HearsAll.{at, grown_on}
+use Rattle.srm_world.proofs.HearsAll.{at, grown_on, grows_nothing}
 use Rattle.srm_node.specs.declared.fault.NodeFault.{NodeFault}
 use Rattle.srm_node.specs.declared.fault.NodeFault.TheVariants.{Wire, Memory, Turns}
 use Rattle.srm_node.specs.Calls.{Calls}
 use Rattle.srm_node.specs.Parts.{IsDrawing, is_give}
+use Rattle.srm_node.specs.Showing.{page_of, CarriesOut, ObeysFound, ShowsAsked, ShowsAskedCut}
 use Rattle.srm_node.specs.Nodes.{NodeView, NodeState, IsMadeNow, moment_of}
-use Rattle.srm_node.specs.Turns.{ReadsNow, HearsNow, LooksNow, DrawsNow, LeavesNow, TurnToLeaving, TurnToTick, Turned, TurnEnds, IsCut}
+use Rattle.srm_node.specs.Turns.{ReadsNow, HearsNow, LooksNow, DrawsNow, LeavesNow, TurnToLeaving, TurnToShowing, TurnToTick, Turned, TurnEnds, IsCut}
 use Rattle.srm_node.specs.Moments.{AreMadeAt, GrowsAt, GrowsNow}
 
 -- ONE JOURNAL BEHIND ANOTHER
@@ -34,6 +39,9 @@ grows_on now a b c h k = record {
 -- the journal is the same
 grows_same : (now : ℕ) (a b c : Journal) → GrowsAt now a b → c ≡ b → GrowsAt now a c
 grows_same now a b c h same = subst (λ j. GrowsAt now a j) (sym same) h
+
+grows_none : (now : ℕ) (a b : Journal) → b ≡ a → GrowsAt now a b
+grows_none now a b same = record { entries = []; grown = same ∙ grows_nothing a; made = tt }
 
 grows_from : (now : ℕ) (a b c : Journal) → a ≡ b → GrowsAt now b c → GrowsAt now a c
 grows_from now a b c same h = subst (λ j. GrowsAt now j c) (sym same) h
@@ -56,14 +64,30 @@ given_at : (now : ℕ) (j : Journal) (es : List Entry) → AllByRecursion (λ (e
 given_at now j [] h = tt
 given_at now j (e ∷ es) h = (inl h.0, given_at now (with_entry j e) es h.1)
 
-hears_at : {X C : Type 0} (R : X → ℕ → List (Option (List ℕ)) → X → Type 0) (now : ℕ) (u : Bool) (a b : NodeView X C) → HearsNow R now u a b → GrowsAt now a.journal b.journal
-hears_at R now u a b h = let l = h.listened.listens in record { entries = l.entries; grown = l.grown; made = entered_at (IsHearing now) now (λ j bytes e h. h.moment) a.journal l.came l.entries l.each }
+hears_at : {X C : Type 0} (R : X → ℕ → List (Option (List ℕ)) → X → Type 0) (now n : ℕ) (u : Bool) (a b : NodeView X C) → HearsNow R now n u a b → GrowsAt now a.journal b.journal
+hears_at R now n u a b h = let l = h.listened.listens in record { entries = l.entries; grown = l.grown; made = entered_at (IsHearing now) now (λ j bytes e h. h.moment) a.journal l.came l.entries l.each }
 
-draws_at : {X C : Type 0} (now : ℕ) (w : Bool) (a b : NodeView X C) → DrawsNow now w a b → GrowsAt now a.journal b.journal
-draws_at now w a b h = let d = h.drew.draws.draws in record { entries = d.entries; grown = d.grown; made = entered_at (IsDrawing now) now (λ j s e h. h.moment) a.journal d.strokes d.entries d.each }
+draws_at : {X C : Type 0} (now most : ℕ) (w : Bool) (a b : NodeView X C) → DrawsNow now most w a b → GrowsAt now a.journal b.journal
+draws_at now most w a b h = let d = h.drew.draws.draws in record { entries = d.entries; grown = d.grown; made = entered_at (IsDrawing now) now (λ j s e h. h.moment) a.journal d.strokes d.entries d.each }
 
 leaves_at : {X C : Type 0} (now : ℕ) (w : Bool) (a b : NodeView X C) → LeavesNow now w a b → GrowsAt now a.journal b.journal
 leaves_at now w a b h = let l = h.leaves in record { entries = l.entries; grown = l.grown; made = left_at now a.journal _ l.entries l.inputs l.moments }
+
+carried_at : (now : ℕ) (page : Option Page) (outcome : Result Page PageRefusal) (j k : Journal) → CarriesOut now page outcome j k → GrowsAt now j k
+carried_at now None outcome j k (none, same) = grows_none now j k same
+carried_at now (Some page) outcome j k s = record { entries = s.entry ∷ []; grown = s.grown; made = (inr s.moment, tt) }
+
+obeyed_at : (now : ℕ) (found : Option PageCommand) (j k : Journal) (seen to : CommandsView) → ObeysFound now found j k seen to → GrowsAt now j k
+obeyed_at now None j k seen to (same, still) = grows_none now j k same
+obeyed_at now (Some command) j k seen to o = carried_at now (page_of j.start.config j.entries command) o.outcome j k o.out
+
+asked_at : (now : ℕ) (j k : Journal) (from to : Option CommandsView) → ShowsAsked now j k from to → GrowsAt now j k
+asked_at now j k None to (same, none) = grows_none now j k same
+asked_at now j k (Some from) to (next, is, o) = obeyed_at now o.found j k o.seen next o.obeys
+
+asked_not_at : (now : ℕ) (j k : Journal) (from to : Option CommandsView) → ShowsAskedCut j k from to → GrowsAt now j k
+asked_not_at now j k None to cut = absurd cut
+asked_not_at now j k (Some from) to (next, is, o) = grows_none now j k o.same
 
 -- THE PARTS SO FAR
 
@@ -74,24 +98,30 @@ module _ {X C : Type 0} where
   abbrev clock_of : NodeView X C → C
   clock_of n = n.clock
 
-  heard_at : (calls : Calls X C) (now : ℕ) (u : Bool) (a r b l : NodeView X C) → ReadsNow calls.reads now a r → HearsNow calls.receives now u r b → LooksNow b l → GrowsAt now a.journal l.journal
-  heard_at calls now u a r b l t h k = grows_same now a.journal b.journal l.journal (grows_from now a.journal r.journal b.journal (sym (ap journal_of t.same)) (hears_at calls.receives now u r b h)) (ap journal_of k.same)
+  heard_at : (calls : Calls X C) (now n : ℕ) (u : Bool) (a r b l : NodeView X C) → ReadsNow calls.reads now a r → HearsNow calls.receives now n u r b → LooksNow b l → GrowsAt now a.journal l.journal
+  heard_at calls now n u a r b l t h k = grows_same now a.journal b.journal l.journal (grows_from now a.journal r.journal b.journal (sym (ap journal_of t.same)) (hears_at calls.receives now n u r b h)) (ap journal_of k.same)
 
-  drawn_at : (calls : Calls X C) (now : ℕ) (u w : Bool) (a r b l d : NodeView X C) → ReadsNow calls.reads now a r → HearsNow calls.receives now u r b → LooksNow b l → DrawsNow now w l d → GrowsAt now a.journal d.journal
-  drawn_at calls now u w a r b l d t h k y = grows_on now a.journal l.journal d.journal (heard_at calls now u a r b l t h k) (draws_at now w l d y)
+  drawn_at : (calls : Calls X C) (now n most : ℕ) (u w : Bool) (a r b l d : NodeView X C) → ReadsNow calls.reads now a r → HearsNow calls.receives now n u r b → LooksNow b l → DrawsNow now most w l d → GrowsAt now a.journal d.journal
+  drawn_at calls now n most u w a r b l d t h k y = grows_on now a.journal l.journal d.journal (heard_at calls now n u a r b l t h k) (draws_at now most w l d y)
 
   to_leaving_at : (calls : Calls X C) (now : ℕ) (u : Bool) (a b : NodeView X C) → TurnToLeaving calls now u a b → GrowsAt now a.journal b.journal
-  to_leaving_at calls now u a b t = grows_on now a.journal t.drawn.journal b.journal (drawn_at calls now u t.none_left a t.read t.heard t.looked t.drawn t.reads t.hears t.looks t.draws) (leaves_at now t.none_left t.drawn b t.leaves)
+  to_leaving_at calls now u a b t = grows_on now a.journal t.drawn.journal b.journal (drawn_at calls now t.came t.most u t.none_left a t.read t.heard t.looked t.drawn t.reads t.hears t.looks t.draws) (leaves_at now t.none_left t.drawn b t.leaves)
+
+  to_showing_at : (calls : Calls X C) (now : ℕ) (u : Bool) (a b : NodeView X C) → TurnToShowing calls now u a b → GrowsAt now a.journal b.journal
+  to_showing_at calls now u a b t = grows_on now a.journal t.left.journal b.journal (to_leaving_at calls now u a t.left t.to_leaving) (asked_at now t.left.journal b.journal t.left.control b.control t.shows.shows)
 
   to_tick_at : (calls : Calls X C) (u v : Bool) (a b : NodeView X C) (t : TurnToTick calls u v a b) → GrowsAt t.now a.journal b.journal
-  to_tick_at calls u v a b t = let k = t.ticks.ticks in grows_on t.now a.journal t.left.journal b.journal (to_leaving_at calls t.now u a t.left t.to_leaving) (record { entries = k.entry ∷ []; grown = k.grown; made = (inr k.moment, tt) })
+  to_tick_at calls u v a b t = let k = t.ticks.ticks in grows_on t.now a.journal t.shown.journal b.journal (to_showing_at calls t.now u a t.shown t.to_showing) (record { entries = k.entry ∷ []; grown = k.grown; made = (inr k.moment, tt) })
 
   -- the clock behind the reading is that of the turn's end
   read_of_leaving : (calls : Calls X C) (now : ℕ) (u : Bool) (a b : NodeView X C) (t : TurnToLeaving calls now u a b) → b.clock ≡ t.read.clock
   read_of_leaving calls now u a b t = ap clock_of t.leaves.same ∙ ap clock_of t.draws.same ∙ ap clock_of t.looks.same ∙ ap clock_of t.hears.same
 
-  read_of_tick : (calls : Calls X C) (u v : Bool) (a b : NodeView X C) (t : TurnToTick calls u v a b) → b.clock ≡ t.to_leaving.read.clock
-  read_of_tick calls u v a b t = ap clock_of t.ticks.same ∙ read_of_leaving calls t.now u a t.left t.to_leaving
+  read_of_showing : (calls : Calls X C) (now : ℕ) (u : Bool) (a b : NodeView X C) (t : TurnToShowing calls now u a b) → b.clock ≡ t.to_leaving.read.clock
+  read_of_showing calls now u a b t = ap clock_of t.shows.same ∙ read_of_leaving calls now u a t.left t.to_leaving
+
+  read_of_tick : (calls : Calls X C) (u v : Bool) (a b : NodeView X C) (t : TurnToTick calls u v a b) → b.clock ≡ t.to_showing.to_leaving.read.clock
+  read_of_tick calls u v a b t = ap clock_of t.ticks.same ∙ read_of_showing calls t.now u a t.shown t.to_showing
 
   by_reading : (calls : Calls X C) (now : ℕ) (a r b : NodeView X C) → ReadsNow calls.reads now a r → b.clock ≡ r.clock → GrowsAt now a.journal b.journal → GrowsNow calls.reads a b
   by_reading calls now a r b t same h = record { told = t.told; reads = subst (λ c. calls.reads a.clock t.told c) (sym same) t.reads; grows = subst (λ n. GrowsAt n a.journal b.journal) t.counts h }
@@ -100,20 +130,22 @@ module _ {X C : Type 0} where
   turned_at calls u v a b t =
       let p = t.to_tick in
       let g = t.gives.gives in
-      by_reading calls p.now a p.to_leaving.read b p.to_leaving.reads (ap clock_of t.gives.same ∙ read_of_tick calls u v a t.ticked p)
+      by_reading calls p.now a p.to_showing.to_leaving.read b p.to_showing.to_leaving.reads (ap clock_of t.gives.same ∙ read_of_tick calls u v a t.ticked p)
       (grows_on p.now a.journal t.ticked.journal b.journal (to_tick_at calls u v a t.ticked p) (record { entries = g.entries; grown = g.grown; made = given_at p.now t.ticked.journal g.entries g.inputs }))
 
   cut_at : (calls : Calls X C) (a b : NodeView X C) → IsCut calls a b → GrowsNow calls.reads a b
   cut_at calls a b (inl t) = let l = t.hears.listened.listens in by_reading calls t.now a t.read b t.reads (ap clock_of t.hears.same)
       (grows_from t.now a.journal t.read.journal b.journal (sym (ap journal_of t.reads.same)) (record { entries = l.entries; grown = l.grown; made = entered_at (IsHearing t.now) t.now (λ j bytes e h. h.moment) t.read.journal l.came l.entries l.each }))
   cut_at calls a b (inr (inl t)) = let d = t.draws.drew.draws.draws in by_reading calls t.now a t.read b t.reads (ap clock_of t.draws.same ∙ ap clock_of t.looks.same ∙ ap clock_of t.hears.same)
-      (grows_on t.now a.journal t.looked.journal b.journal (heard_at calls t.now t.unheard a t.read t.heard t.looked t.reads t.hears t.looks) (record { entries = d.entries; grown = d.grown; made = entered_at (IsDrawing t.now) t.now (λ j s e h. h.moment) t.looked.journal d.strokes d.entries d.each }))
-  cut_at calls a b (inr (inr (inl t))) = by_reading calls t.now a t.read b t.reads (ap clock_of t.draws.same ∙ ap clock_of t.looks.same ∙ ap clock_of t.hears.same) (drawn_at calls t.now t.unheard t.none_left a t.read t.heard t.looked b t.reads t.hears t.looks t.draws)
-  cut_at calls a b (inr (inr (inr (inl t)))) = by_reading calls t.now a t.to_leaving.read b t.to_leaving.reads (read_of_leaving calls t.now t.unheard a b t.to_leaving) (to_leaving_at calls t.now t.unheard a b t.to_leaving)
-  cut_at calls a b (inr (inr (inr (inr t)))) =
+      (grows_on t.now a.journal t.looked.journal b.journal (heard_at calls t.now t.came t.unheard a t.read t.heard t.looked t.reads t.hears t.looks) (record { entries = d.entries; grown = d.grown; made = entered_at (IsDrawing t.now) t.now (λ j s e h. h.moment) t.looked.journal d.strokes d.entries d.each }))
+  cut_at calls a b (inr (inr (inl t))) = by_reading calls t.now a t.read b t.reads (ap clock_of t.draws.same ∙ ap clock_of t.looks.same ∙ ap clock_of t.hears.same) (drawn_at calls t.now t.came t.most t.unheard t.none_left a t.read t.heard t.looked b t.reads t.hears t.looks t.draws)
+  cut_at calls a b (inr (inr (inr (inl t)))) = by_reading calls t.now a t.to_leaving.read b t.to_leaving.reads (ap clock_of t.shows.same ∙ read_of_leaving calls t.now t.unheard a t.left t.to_leaving)
+      (grows_on t.now a.journal t.left.journal b.journal (to_leaving_at calls t.now t.unheard a t.left t.to_leaving) (asked_not_at t.now t.left.journal b.journal t.left.control b.control t.shows.shows))
+  cut_at calls a b (inr (inr (inr (inr (inl t))))) = by_reading calls t.now a t.to_showing.to_leaving.read b t.to_showing.to_leaving.reads (read_of_showing calls t.now t.unheard a b t.to_showing) (to_showing_at calls t.now t.unheard a b t.to_showing)
+  cut_at calls a b (inr (inr (inr (inr (inr t))))) =
       let p = t.to_tick in
       let g = t.gives.gives.gives in
-      by_reading calls p.now a p.to_leaving.read b p.to_leaving.reads (ap clock_of t.gives.same ∙ read_of_tick calls t.unheard t.unsent a t.ticked p)
+      by_reading calls p.now a p.to_showing.to_leaving.read b p.to_showing.to_leaving.reads (ap clock_of t.gives.same ∙ read_of_tick calls t.unheard t.unsent a t.ticked p)
       (grows_on p.now a.journal t.ticked.journal b.journal (to_tick_at calls t.unheard t.unsent a t.ticked p) (record { entries = g.entries; grown = g.grown; made = given_at p.now t.ticked.journal g.entries g.inputs }))
 
   -- A turn's entries are made at the moment of its one reading, however it ends.

@@ -11,9 +11,9 @@ use Rattle.srm_node.specs.declared.fault.OutOfMemory.{OutOfMemory}
 use Rattle.srm_wire.specs.Wires.{CountsIf, RoseOrFull}
 use Rattle.srm_names.specs.Moments.{has_come}
 use Rattle.srm_node.specs.Calls.{Calls}
-use Rattle.srm_node.specs.Parts.{is_to_leave, still_asked, Leaves}
+use Rattle.srm_node.specs.Parts.{strokes_after, is_to_leave, still_asked, Leaves}
 use Rattle.srm_node.specs.Nodes.{NodeView, has_ended}
-use Rattle.srm_node.specs.Turns.{ReadsNow, HearsNow, LooksNow, DrawsNow, LeavesNow, TicksNow, GivesNow, HearsCut, DrawsCut, GivesCut, IsCut, TurnToLeaving, TurnToTick, Turned, TurnedDeaf, TurnEnds, Paused, RunsOf, WholeTurns, RunEnds}
+use Rattle.srm_node.specs.Turns.{ReadsNow, HearsNow, LooksNow, DrawsNow, LeavesNow, ShowsNow, TicksNow, GivesNow, HearsCut, DrawsCut, ShowsCut, GivesCut, IsCut, TurnToLeaving, TurnToShowing, TurnToTick, Turned, TurnedDeaf, TurnEnds, Paused, RunsOf, WholeTurns, RunEnds}
 use Rattle.srm_wire.proofs.Telling.{counts_on}
 
 -- a node that leaves isn't to leave again, unless memory ran out
@@ -46,44 +46,50 @@ ends_cut calls (Err fault) a b is cut = subst (λ f. TurnEnds calls (Err f) a b)
 pub cut_hearing : {X C : Type 0} (calls : Calls X C) (now : ℕ) (a r b : NodeView X C) (x : Result (Unit {0}) NodeFault) → IsErrAnd x (λ fault. fault ≡ Memory) → ReadsNow calls.reads now a r → HearsCut calls.receives now r b → TurnEnds calls x a b
 cut_hearing calls now a r b x is c h = ends_cut calls x a b is (inl (record { now = now; read = r; reads = c; hears = h }))
 
-pub cut_drawing : {X C : Type 0} (calls : Calls X C) (now : ℕ) (u : Bool) (a r b l c : NodeView X C) (x : Result (Unit {0}) NodeFault) → IsErrAnd x (λ fault. fault ≡ Memory) → ReadsNow calls.reads now a r → HearsNow calls.receives now u r b → LooksNow b l → DrawsCut now l c → TurnEnds calls x a c
-cut_drawing calls now u a r b l c x is t h k d = ends_cut calls x a c is (inr (inl (record { now = now; unheard = u; read = r; heard = b; looked = l; reads = t; hears = h; looks = k; draws = d })))
+pub cut_drawing : {X C : Type 0} (calls : Calls X C) (now n most : ℕ) (u : Bool) (a r b l c : NodeView X C) (x : Result (Unit {0}) NodeFault) → IsErrAnd x (λ fault. fault ≡ Memory) → ReadsNow calls.reads now a r → HearsNow calls.receives now n u r b → LooksNow b l → most ≡ strokes_after n → DrawsCut now most l c → TurnEnds calls x a c
+cut_drawing calls now n most u a r b l c x is t h k few d = ends_cut calls x a c is (inr (inl (record { now = now; unheard = u; came = n; most = most; read = r; heard = b; looked = l; reads = t; hears = h; looks = k; room = few; draws = d })))
 
-pub cut_leaving : {X C : Type 0} (calls : Calls X C) (now : ℕ) (u w : Bool) (a r b l c d : NodeView X C) (x : Result (Unit {0}) NodeFault) → IsErrAnd x (λ fault. fault ≡ Memory) → ReadsNow calls.reads now a r → HearsNow calls.receives now u r b → LooksNow b l → DrawsNow now w l c → d ≡ c → TurnEnds calls x a d
-cut_leaving calls now u w a r b l c d x is t h k y same =
-    ends_cut calls x a d is (inr (inr (inl (record { now = now; none_left = w; unheard = u; read = r; heard = b; looked = l; reads = t; hears = h; looks = k; draws = subst (λ n. DrawsNow now w l n) (sym same) y }))))
+pub cut_leaving : {X C : Type 0} (calls : Calls X C) (now n most : ℕ) (u w : Bool) (a r b l c d : NodeView X C) (x : Result (Unit {0}) NodeFault) → IsErrAnd x (λ fault. fault ≡ Memory) → ReadsNow calls.reads now a r → HearsNow calls.receives now n u r b → LooksNow b l → most ≡ strokes_after n → DrawsNow now most w l c → d ≡ c → TurnEnds calls x a d
+cut_leaving calls now n most u w a r b l c d x is t h k few y same =
+    ends_cut calls x a d is (inr (inr (inl (record { now = now; none_left = w; unheard = u; came = n; most = most; read = r; heard = b; looked = l; reads = t; hears = h; looks = k; room = few; draws = subst (λ x. DrawsNow now most w l x) (sym same) y }))))
 
-turned_to_leaving : {X C : Type 0} (calls : Calls X C) (now : ℕ) (u w : Bool) (a r b l c d : NodeView X C) → ReadsNow calls.reads now a r → HearsNow calls.receives now u r b → LooksNow b l → DrawsNow now w l c → LeavesNow now w c d → TurnToLeaving calls now u a d
-turned_to_leaving calls now u w a r b l c d t h k y q = record { none_left = w; read = r; heard = b; looked = l; drawn = c; reads = t; hears = h; looks = k; draws = y; leaves = q }
+turned_to_leaving : {X C : Type 0} (calls : Calls X C) (now n most : ℕ) (u w : Bool) (a r b l c d : NodeView X C) → ReadsNow calls.reads now a r → HearsNow calls.receives now n u r b → LooksNow b l → most ≡ strokes_after n → DrawsNow now most w l c → LeavesNow now w c d → TurnToLeaving calls now u a d
+turned_to_leaving calls now n most u w a r b l c d t h k few y q = record { none_left = w; came = n; most = most; read = r; heard = b; looked = l; drawn = c; reads = t; hears = h; looks = k; room = few; draws = y; leaves = q }
 
-pub cut_ticking : {X C : Type 0} (calls : Calls X C) (now : ℕ) (u w : Bool) (a r b l c d e : NodeView X C) (x : Result (Unit {0}) NodeFault) → IsErrAnd x (λ fault. fault ≡ Memory) → ReadsNow calls.reads now a r → HearsNow calls.receives now u r b → LooksNow b l → DrawsNow now w l c → LeavesNow now w c d → e ≡ d
+pub cut_showing : {X C : Type 0} (calls : Calls X C) (now n most : ℕ) (u w : Bool) (a r b l c d m : NodeView X C) (x : Result (Unit {0}) NodeFault) → IsErrAnd x (λ fault. fault ≡ Memory) → ReadsNow calls.reads now a r → HearsNow calls.receives now n u r b → LooksNow b l → most ≡ strokes_after n → DrawsNow now most w l c → LeavesNow now w c d → ShowsCut d m → TurnEnds calls x a m
+cut_showing calls now n most u w a r b l c d m x is t h k few y q z = ends_cut calls x a m is (inr (inr (inr (inl (record { now = now; unheard = u; left = d; to_leaving = turned_to_leaving calls now n most u w a r b l c d t h k few y q; shows = z })))))
+
+turned_to_showing : {X C : Type 0} (calls : Calls X C) (now n most : ℕ) (u w : Bool) (a r b l c d m : NodeView X C) → ReadsNow calls.reads now a r → HearsNow calls.receives now n u r b → LooksNow b l → most ≡ strokes_after n → DrawsNow now most w l c → LeavesNow now w c d → ShowsNow now d m → TurnToShowing calls now u a m
+turned_to_showing calls now n most u w a r b l c d m t h k few y q z = record { left = d; to_leaving = turned_to_leaving calls now n most u w a r b l c d t h k few y q; shows = z }
+
+pub cut_ticking : {X C : Type 0} (calls : Calls X C) (now n most : ℕ) (u w : Bool) (a r b l c d m e : NodeView X C) (x : Result (Unit {0}) NodeFault) → IsErrAnd x (λ fault. fault ≡ Memory) → ReadsNow calls.reads now a r → HearsNow calls.receives now n u r b → LooksNow b l → most ≡ strokes_after n → DrawsNow now most w l c → LeavesNow now w c d → ShowsNow now d m → e ≡ m
     → TurnEnds calls x a e
-cut_ticking calls now u w a r b l c d e x is t h k y q same = ends_cut calls x a e is (inr (inr (inr (inl (record { now = now; unheard = u; to_leaving = subst (λ n. TurnToLeaving calls now u a n) (sym same) (turned_to_leaving calls now u w a r b l c d t h k y q) })))))
+cut_ticking calls now n most u w a r b l c d m e x is t h k few y q z same = ends_cut calls x a e is (inr (inr (inr (inr (inl (record { now = now; unheard = u; to_showing = subst (λ x. TurnToShowing calls now u a x) (sym same) (turned_to_showing calls now n most u w a r b l c d m t h k few y q z) }))))))
 
-turned_to_tick : {X C : Type 0} (calls : Calls X C) (now : ℕ) (u v w : Bool) (a r b l c d e : NodeView X C) → ReadsNow calls.reads now a r → HearsNow calls.receives now u r b → LooksNow b l → DrawsNow now w l c → LeavesNow now w c d → TicksNow calls.sends now v d e → TurnToTick calls u v a e
-turned_to_tick calls now u v w a r b l c d e t h k y q s = record { now = now; left = d; to_leaving = turned_to_leaving calls now u w a r b l c d t h k y q; ticks = s }
+turned_to_tick : {X C : Type 0} (calls : Calls X C) (now n most : ℕ) (u v w : Bool) (a r b l c d m e : NodeView X C) → ReadsNow calls.reads now a r → HearsNow calls.receives now n u r b → LooksNow b l → most ≡ strokes_after n → DrawsNow now most w l c → LeavesNow now w c d → ShowsNow now d m → TicksNow calls.sends now v m e → TurnToTick calls u v a e
+turned_to_tick calls now n most u v w a r b l c d m e t h k few y q z s = record { now = now; shown = m; to_showing = turned_to_showing calls now n most u w a r b l c d m t h k few y q z; ticks = s }
 
-pub cut_giving : {X C : Type 0} (calls : Calls X C) (now : ℕ) (u v w : Bool) (a r b l c d e f : NodeView X C) (x : Result (Unit {0}) NodeFault) → IsErrAnd x (λ fault. fault ≡ Memory) → ReadsNow calls.reads now a r → HearsNow calls.receives now u r b → LooksNow b l → DrawsNow now w l c → LeavesNow now w c d
-    → TicksNow calls.sends now v d e → GivesCut e f → TurnEnds calls x a f
-cut_giving calls now u v w a r b l c d e f x is t h k y q s g = ends_cut calls x a f is (inr (inr (inr (inr (record { unheard = u; unsent = v; ticked = e; to_tick = turned_to_tick calls now u v w a r b l c d e t h k y q s; gives = g })))))
+pub cut_giving : {X C : Type 0} (calls : Calls X C) (now n most : ℕ) (u v w : Bool) (a r b l c d m e f : NodeView X C) (x : Result (Unit {0}) NodeFault) → IsErrAnd x (λ fault. fault ≡ Memory) → ReadsNow calls.reads now a r → HearsNow calls.receives now n u r b → LooksNow b l → most ≡ strokes_after n → DrawsNow now most w l c → LeavesNow now w c d → ShowsNow now d m
+    → TicksNow calls.sends now v m e → GivesCut e f → TurnEnds calls x a f
+cut_giving calls now n most u v w a r b l c d m e f x is t h k few y q z s g = ends_cut calls x a f is (inr (inr (inr (inr (inr (record { unheard = u; unsent = v; ticked = e; to_tick = turned_to_tick calls now n most u v w a r b l c d m e t h k few y q z s; gives = g }))))))
 
-turned : {X C : Type 0} (calls : Calls X C) (now : ℕ) (u v w : Bool) (a r b l c d e f : NodeView X C) → ReadsNow calls.reads now a r → HearsNow calls.receives now u r b → LooksNow b l → DrawsNow now w l c → LeavesNow now w c d → TicksNow calls.sends now v d e → GivesNow PAGES e f → Turned calls u v a f
-turned calls now u v w a r b l c d e f t h k y q s g = record { ticked = e; to_tick = turned_to_tick calls now u v w a r b l c d e t h k y q s; gives = g }
+turned : {X C : Type 0} (calls : Calls X C) (now n most : ℕ) (u v w : Bool) (a r b l c d m e f : NodeView X C) → ReadsNow calls.reads now a r → HearsNow calls.receives now n u r b → LooksNow b l → most ≡ strokes_after n → DrawsNow now most w l c → LeavesNow now w c d → ShowsNow now d m → TicksNow calls.sends now v m e → GivesNow PAGES e f → Turned calls u v a f
+turned calls now n most u v w a r b l c d m e f t h k few y q z s g = record { ticked = e; to_tick = turned_to_tick calls now n most u v w a r b l c d m e t h k few y q z s; gives = g }
 
-pub turned_whole : {X C : Type 0} (calls : Calls X C) (now : ℕ) (u v w : Bool) (a r b l c d e f : NodeView X C) → ReadsNow calls.reads now a r → HearsNow calls.receives now u r b → LooksNow b l → DrawsNow now w l c → LeavesNow now w c d → TicksNow calls.sends now v d e → GivesNow PAGES e f → (u || v) ≡ false
+pub turned_whole : {X C : Type 0} (calls : Calls X C) (now n most : ℕ) (u v w : Bool) (a r b l c d m e f : NodeView X C) → ReadsNow calls.reads now a r → HearsNow calls.receives now n u r b → LooksNow b l → most ≡ strokes_after n → DrawsNow now most w l c → LeavesNow now w c d → ShowsNow now d m → TicksNow calls.sends now v m e → GivesNow PAGES e f → (u || v) ≡ false
     → Turned calls false false a f
-turned_whole calls now true v w a r b l c d e f t h k y q s g none = cc
-turned_whole calls now false true w a r b l c d e f t h k y q s g none = cc
-turned_whole calls now false false w a r b l c d e f t h k y q s g none = turned calls now false false w a r b l c d e f t h k y q s g
+turned_whole calls now n most true v w a r b l c d m e f t h k few y q z s g none = cc
+turned_whole calls now n most false true w a r b l c d m e f t h k few y q z s g none = cc
+turned_whole calls now n most false false w a r b l c d m e f t h k few y q z s g none = turned calls now n most false false w a r b l c d m e f t h k few y q z s g
 
-pub turned_deaf : {X C : Type 0} (calls : Calls X C) (now : ℕ) (u v w : Bool) (a r b l c d e f : NodeView X C) → ReadsNow calls.reads now a r → HearsNow calls.receives now u r b → LooksNow b l → DrawsNow now w l c → LeavesNow now w c d → TicksNow calls.sends now v d e → GivesNow PAGES e f → (u || v) ≡ true
+pub turned_deaf : {X C : Type 0} (calls : Calls X C) (now n most : ℕ) (u v w : Bool) (a r b l c d m e f : NodeView X C) → ReadsNow calls.reads now a r → HearsNow calls.receives now n u r b → LooksNow b l → most ≡ strokes_after n → DrawsNow now most w l c → LeavesNow now w c d → ShowsNow now d m → TicksNow calls.sends now v m e → GivesNow PAGES e f → (u || v) ≡ true
     → TurnedDeaf calls a f
-turned_deaf {X} {C} calls now u v w a r b l c d e f t h k y q s g some = record {
+turned_deaf {X} {C} calls now n most u v w a r b l c d m e f t h k few y q z s g some = record {
   unheard = u;
   unsent = v;
   some = some;
-  turned = turned calls now u v w a r b l c d e f t h k y q s g;
-  failed = rose (counts_on u v a.failures d.failures f.failures (subst (λ n. CountsIf u n d.failures) first (subst (λ n. CountsIf u r.failures n) (sym same_before) h.failures)) (subst (λ n. CountsIf v d.failures n) (sym same_after) s.sends.failures));
+  turned = turned calls now n most u v w a r b l c d m e f t h k few y q z s g;
+  failed = rose (counts_on u v a.failures m.failures f.failures (subst (λ n. CountsIf u n m.failures) first (subst (λ n. CountsIf u r.failures n) (sym same_before) h.failures)) (subst (λ n. CountsIf v m.failures n) (sym same_after) s.sends.failures));
 }
   where
     failures : NodeView X C → ℕ
@@ -92,8 +98,8 @@ turned_deaf {X} {C} calls now u v w a r b l c d e f t h k y q s g some = record 
     first : r.failures ≡ a.failures
     first = ap failures t.same
 
-    same_before : d.failures ≡ b.failures
-    same_before = ap failures q.same ∙ ap failures y.same ∙ ap failures k.same
+    same_before : m.failures ≡ b.failures
+    same_before = ap failures z.same ∙ ap failures q.same ∙ ap failures y.same ∙ ap failures k.same
 
     same_after : f.failures ≡ e.failures
     same_after = ap failures g.same

@@ -2,11 +2,13 @@ pub mod Calls
 pub mod Carrying
 pub mod Counting
 pub mod Parts
+pub mod Showing
 pub mod Nodes
 pub mod Waits
 pub mod Moments
 pub mod Turns
 pub mod TurnExamples
+pub mod ShowingExamples
 pub mod Working
 pub mod Hosting
 pub mod NodeExamples

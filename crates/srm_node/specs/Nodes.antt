@@ -5,6 +5,7 @@ use Rattle.srm_names.specs.declared.limits.TheConstants.{PAGES, LATEST_MOMENT}
 use Rattle.srm_names.specs.PageFeeds.{is_close}
 use Rattle.srm_pages.specs.declared.stroke.Stroke.{Stroke}
 use Rattle.srm_pages.specs.Ends.{FeedView, WellView}
+use Rattle.srm_control.specs.Ends.{CommandsView}
 use Rattle.srm_entries.specs.Configs.{Config}
 use Rattle.srm_entries.specs.Entries.{state, is_gone}
 use Rattle.srm_world.specs.Traces.{Journal}
@@ -17,14 +18,15 @@ use Rattle.srm_node.specs.Carrying.{KeepsLists}
 abbrev pub moment_of : ℕ → ℕ
 moment_of told = min told LATEST_MOMENT
 
--- the journal, the feeds by slot, the well, the stroke in hand, the moment from which it is to leave if it was asked to, how many calls of the wire
--- failed, what the wire told if it tells, and the wire and the clock as they stand
+-- the journal, the feeds by slot, the well, the stroke in hand, the moment from which it is to leave if it was asked to, its end of a control if it has one, how
+-- many calls of the wire failed, what the wire told if it tells, and the wire and the clock as they stand
 pub record NodeView (X C : Type 0) : Type 0 where
   pub journal : Journal
   pub feeds : List FeedView
   pub well : WellView
   pub hand : Option Stroke
   pub asked : Option ℕ
+  pub control : Option CommandsView
   pub failures : ℕ
   pub told : Option Told
   pub wire : X
@@ -76,7 +78,7 @@ pub record IsNewJournal (config : Config) (j : Journal) : Type 0 where
 -- a node with these settings that did nothing yet, over this wire
 pub record IsNewNode {X C : Type 0} (config : Config) (feeds : List FeedView) (well : WellView) (failures : ℕ) (told : Option Told) (wire : X) (n : NodeView X C) : Type 0 where
   pub made : ℕ
-  pub is : n ≡ record { journal = record { start = record { config = config; made = made }; entries = [] }; feeds = feeds; well = well; hand = None; asked = None; failures = failures; told = told; wire = wire; clock = n.clock }
+  pub is : n ≡ record { journal = record { start = record { config = config; made = made }; entries = [] }; feeds = feeds; well = well; hand = None; asked = None; control = None; failures = failures; told = told; wire = wire; clock = n.clock }
 
 -- the node was made at the moment of one reading of this clock
 pub record IsMadeNow {X C : Type 0} (Reads : C → ℕ → C → Type 0) (clock : C) (n : NodeView X C) : Type 0 where

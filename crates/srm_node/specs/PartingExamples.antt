@@ -33,7 +33,7 @@ use Rattle.srm_node.specs.declared.fault.NodeFault.TheVariants.{Turns}
 use Rattle.srm_node.specs.Carrying.{Carries, CarriesEach}
 use Rattle.srm_node.specs.Nodes.{has_ended}
 use Rattle.srm_node.specs.Turns.{DrawsNow, LeavesNow, TicksNow, GivesNow, Turned, RunEnds}
-use Rattle.srm_node.specs.TurnSample.{Node, at_each, eight, journal, calls, unturned, unpaused, waits_once, read_once, reads_once, heard_nothing, hears_nothing, looked, looks_once, gives_as, opens_as, give_right, gives_up_to}
+use Rattle.srm_node.specs.TurnSample.{Node, at_each, eight, journal, calls, unturned, unpaused, waits_once, read_once, reads_once, heard_nothing, hears_nothing, looked, looks_once, shows_nothing, gives_as, opens_as, give_right, gives_up_to}
 
 -- WHAT THE TURN WRITES
 
@@ -196,7 +196,7 @@ abbrev pub ended : LaneId → WellView → Node
 ended lane well = record (ticked lane well) { journal = journal entries; feeds = closed lane }
 
 -- no stroke is there
-draws_none : (lane : LaneId) (well : WellView) → DrawsNow 1 true (seen lane well) (drawn lane well)
+draws_none : (lane : LaneId) (well : WellView) → DrawsNow 1 64 true (seen lane well) (drawn lane well)
 draws_none lane well = record {
   drew = record {
     count = 0;
@@ -241,18 +241,25 @@ turned lane well = record {
   ticked = ticked lane well;
   to_tick = record {
     now = 1;
-    left = left lane well;
-    to_leaving = record {
-      none_left = true;
-      read = read_once (Some 0) lane (record well { nones = 0 });
-      heard = heard lane well;
-      looked = seen lane well;
-      drawn = drawn lane well;
-      reads = reads_once (Some 0) lane (record well { nones = 0 });
-      hears = hears_nothing (Some 0) lane (record well { nones = 0 });
-      looks = looks_once (Some 0) lane (record well { nones = 0 });
-      draws = draws_none lane well;
-      leaves = leaves lane well;
+    shown = left lane well;
+    to_showing = record {
+      left = left lane well;
+      to_leaving = record {
+        none_left = true;
+        came = 0;
+        most = 64;
+        read = read_once (Some 0) lane (record well { nones = 0 });
+        heard = heard lane well;
+        looked = seen lane well;
+        drawn = drawn lane well;
+        reads = reads_once (Some 0) lane (record well { nones = 0 });
+        hears = hears_nothing (Some 0) lane (record well { nones = 0 });
+        looks = looks_once (Some 0) lane (record well { nones = 0 });
+        room = refl;
+        draws = draws_none lane well;
+        leaves = leaves lane well;
+      };
+      shows = shows_nothing (left lane well) refl;
     };
     ticks = ticks_once lane well;
   };

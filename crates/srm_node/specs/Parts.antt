@@ -1,5 +1,5 @@
 -- The parts of a turn.
-use Rattle.std.specs.Prelude.{◌≡◌, ◌⊎◌, ℕ, ◌<◌, ◌≤◌, ◌==◌, ◌+◌, Bool, true, false, ◌&&◌, ◌||◌, List, [], ◌∷◌, ◌++◌, map, length, slice_get, Option, Some, None, is_none, option_to_list, is_some, MatchBool, if◌then◌else◌}
+use Rattle.std.specs.Prelude.{◌≡◌, ◌⊎◌, ℕ, ◌<◌, ◌≤◌, ◌==◌, ◌+◌, ◌-◌, max, Bool, true, false, ◌&&◌, ◌||◌, List, [], ◌∷◌, ◌++◌, map, length, slice_get, Option, Some, None, is_none, option_to_list, is_some, MatchBool, if◌then◌else◌}
 use Rattle.std.specs.Bool.{OnTrue}
 use Rattle.std.specs.List.{AllByRecursion, list_any}
 use Rattle.srm_names.specs.declared.limits.TheConstants.{PAGES}
@@ -16,7 +16,7 @@ use Rattle.srm_outbox.specs.Outs.{AreOutsOf}
 use Rattle.srm_world.specs.Traces.{Journal}
 use Rattle.srm_world.specs.Claims.{IsLawfulJournal}
 use Rattle.srm_world.specs.Recording.{with_entry, with_entries, IsAt, EntersEach, HearsEach}
-use Rattle.srm_node.specs.declared.limits.TheConstants.{BUFFER_BYTES, DATAGRAMS_A_TURN, STROKES_A_TURN}
+use Rattle.srm_node.specs.declared.limits.TheConstants.{BUFFER_BYTES, DATAGRAMS_A_TURN, STROKES_A_TURN, STROKES_AT_LEAST}
 use Rattle.srm_wire.specs.Wires.{Told, TellsMore, ReceivesEach, all_told, answered_with, none_there, it_failed}
 use Rattle.srm_node.specs.Carrying.{Carries, CarriesEach, drawing}
 
@@ -42,9 +42,8 @@ abbrev pub HearingEnds : Bool → ℕ → List (List (Option (List ℕ))) → Ty
 HearingEnds true count last = (count < DATAGRAMS_A_TURN) × (last ≡ it_failed ∷ [])
 HearingEnds false count last = HearingIsWhole count last
 
--- what came was heard, and all of it unless a call failed
-pub record Listened {X : Type 0} (Receives : X → ℕ → List (Option (List ℕ)) → X → Type 0) (now : ℕ) (failed : Bool) (old new : Journal) (was is : Option Told) (before after : X) : Type 0 where
-  pub count : ℕ
+-- what came was heard, so many datagrams, and all of it unless a call failed
+pub record Listened {X : Type 0} (Receives : X → ℕ → List (Option (List ℕ)) → X → Type 0) (now count : ℕ) (failed : Bool) (old new : Journal) (was is : Option Told) (before after : X) : Type 0 where
   pub last : List (List (Option (List ℕ)))
   pub listens : Listens Receives now count last old new was is before after
   pub ends : HearingEnds failed count last
@@ -57,6 +56,10 @@ pub record ListenedCut {X : Type 0} (Receives : X → ℕ → List (Option (List
   pub listens : Listens Receives now count (answered_with lost ∷ []) old new was is before after
 
 -- DRAWING
+
+-- how many strokes a turn may draw that heard so many datagrams: 64 less these, and never fewer than 8
+abbrev pub strokes_after : ℕ → ℕ
+strokes_after heard = max (STROKES_A_TURN - heard) STROKES_AT_LEAST
 
 -- strokes that were popped stand behind the one in hand, and so often none was found
 pub record PopsStrokes (nones : ℕ) (from to : WellView) (hand all : List Stroke) : Type 0 where
@@ -104,23 +107,23 @@ pub record DrawsStrokes (now count : ℕ) (none_found : Bool) (old new : Journal
   pub pops : PopsStrokes (once none_found) from to (option_to_list hand) all
   pub draws : DrawsOf now count all (option_to_list kept) old new
 
--- As many were drawn as a turn draws, by which it isn't known whether more are left; or fewer, and the well had none; or the one in hand isn't
+-- As many were drawn as the turn might, by which it isn't known whether more are left; or fewer, and the well had none; or the one in hand isn't
 -- admitted.
-abbrev pub DrawingEnds : (now count : ℕ) → Bool → Journal → Option Stroke → Type 0
-DrawingEnds now count none_left j (Some s) = (none_left ≡ false) × IsAdmitted now j s false
-DrawingEnds now count none_left j None = MatchBool none_left (count < STROKES_A_TURN) (count ≡ STROKES_A_TURN)
+abbrev pub DrawingEnds : (now most count : ℕ) → Bool → Journal → Option Stroke → Type 0
+DrawingEnds now most count none_left j (Some s) = (none_left ≡ false) × IsAdmitted now j s false
+DrawingEnds now most count none_left j None = MatchBool none_left (count < most) (count ≡ most)
 
--- Strokes were drawn, until there was cause to end. None is left exactly where the well was found to have none.
-pub record DrewStrokes (now : ℕ) (none_left : Bool) (old new : Journal) (from to : WellView) (hand kept : Option Stroke) : Type 0 where
+-- Strokes were drawn, at most so many, until there was cause to end. None is left exactly where the well was found to have none.
+pub record DrewStrokes (now most : ℕ) (none_left : Bool) (old new : Journal) (from to : WellView) (hand kept : Option Stroke) : Type 0 where
   pub count : ℕ
-  pub few : count ≤ STROKES_A_TURN
+  pub few : count ≤ most
   pub draws : DrawsStrokes now count none_left old new from to hand kept
-  pub ends : DrawingEnds now count none_left new kept
+  pub ends : DrawingEnds now most count none_left new kept
 
 -- Memory ran out: the stroke for which it did is in hand.
-pub record DrewStrokesCut (now : ℕ) (old new : Journal) (from to : WellView) (hand kept : Option Stroke) : Type 0 where
+pub record DrewStrokesCut (now most : ℕ) (old new : Journal) (from to : WellView) (hand kept : Option Stroke) : Type 0 where
   pub count : ℕ
-  pub few : count < STROKES_A_TURN
+  pub few : count < most
   pub draws : DrawsStrokes now count false old new from to hand kept
   pub in_hand : is_some kept ≡ true
 

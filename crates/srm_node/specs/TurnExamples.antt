@@ -1,5 +1,5 @@
 -- The drawing, the leaving and the waits of a turn, at worked examples.
-use Rattle.std.specs.Prelude.{◌≡◌, ◌+◌, ◌<◌, ℕ, true, false, List, [], ◌∷◌, ◌++◌, map, Some, None, replicate, refl}
+use Rattle.std.specs.Prelude.{◌≡◌, ◌+◌, ◌<◌, ◌≤◌, ℕ, true, false, List, [], ◌∷◌, ◌++◌, map, Some, None, replicate, refl}
 use Rattle.std.proofs.Common.{arith, ap, inl, inr}
 use Rattle.srm_names.specs.Names.{first_page}
 use Rattle.srm_codec.specs.declared.datagram.Datagram.TheVariants.{Data}
@@ -14,7 +14,7 @@ use Rattle.srm_agent.specs.Noting.{moment_that_counts}
 use Rattle.srm_world.specs.Traces.{Journal}
 use Rattle.srm_world.specs.Recording.{IsAt}
 use Rattle.srm_world.specs.WaitWords.{RecorderView}
-use Rattle.srm_node.specs.Parts.{IsAdmitted, DrawsStrokes, DrawingEnds, is_to_leave, Leaves}
+use Rattle.srm_node.specs.Parts.{strokes_after, IsAdmitted, DrawsStrokes, DrewStrokes, DrawingEnds, is_to_leave, Leaves}
 use Rattle.srm_node.specs.Waits.{WaitsByWords}
 use Rattle.srm_node.specs.Moments.{IsMadeAt, GrowsAt}
 use Rattle.srm_node.specs.Nodes.{moment_of}
@@ -58,16 +58,27 @@ draws_one w = record {
   draws = record { strokes = full ∷ []; entries = first_drawn ∷ []; counted = refl; grown = refl; each = (record { moment = refl; input = refl; admitted = first_admitted }, tt); all_is = refl };
 }
 
+-- behind nothing heard a turn draws at most 64; what was heard leaves so many fewer, but never fewer than 8, a flood of noise included
+rooms : map strokes_after (0 ∷ 1 ∷ 10 ∷ 55 ∷ 56 ∷ 57 ∷ 64 ∷ []) ≡ 64 ∷ 63 ∷ 54 ∷ 9 ∷ 8 ∷ 8 ∷ 8 ∷ []
+rooms = refl
+
 -- with one in hand it ends only where that isn't admitted
-not_while_admitted : DrawingEnds 5 0 false (journal []) (Some full) ≡ ((false ≡ false) × IsAdmitted 5 (journal []) full false)
+not_while_admitted : DrawingEnds 5 64 0 false (journal []) (Some full) ≡ ((false ≡ false) × IsAdmitted 5 (journal []) full false)
 not_while_admitted = refl
 
--- after 64 it isn't known whether more are left
-not_known_after_64 : DrawingEnds 5 64 true (journal []) None ≡ (64 < 64)
+-- after as many as it might draw it isn't known whether more are left
+not_known_after_64 : DrawingEnds 5 64 64 true (journal []) None ≡ (64 < 64)
 not_known_after_64 = refl
 
-known_after_63 : DrawingEnds 5 63 true (journal []) None
+known_after_63 : DrawingEnds 5 64 63 true (journal []) None
 known_after_63 = omega arith
+
+known_after_7 : DrawingEnds 5 8 7 true (journal []) None
+known_after_7 = omega arith
+
+-- a turn that may draw 8 doesn't draw 9
+not_nine : (old new : Journal) (w : WellView) (h : DrewStrokes 5 (strokes_after 64) false old new w w None None) → h.count ≡ 9 → ⊥
+not_nine old new w h nine = let most : h.count ≤ 8 = h.few in omega arith
 
 -- a member leaves where none is left
 leaves_then : Leaves 2 true (journal (first_drawn ∷ [])) (journal (first_drawn ∷ asked ∷ []))

@@ -1,7 +1,7 @@
 -- What the examples of whole turns have in common: eight feeds, a turn in which nothing came, and gives by which each slot is served.
 use Rattle.std.specs.Prelude.{◌≡◌, ℕ, zero, suc, true, false, List, [], ◌∷◌, ◌++◌, Option, Some, None, slice_get, refl}
 use Rattle.std.specs.List.{AllByRecursion}
-use Rattle.std.proofs.Common.{arith, inr, subst}
+use Rattle.std.proofs.Common.{arith, inr, sym, subst}
 use Rattle.std.proofs.lemmas.Option.{same_Some}
 use Rattle.srm_names.specs.FullName.{FullName}
 use Rattle.srm_names.specs.Names.{first_page}
@@ -19,9 +19,10 @@ use Rattle.srm_world.specs.Traces.{Journal}
 use Rattle.srm_world.specs.Claims.{IsLawfulJournal}
 use Rattle.srm_node.specs.Carrying.{CarriesEach}
 use Rattle.srm_node.specs.Parts.{GivesUpTo, SameFeed, is_give, is_served}
+use Rattle.srm_node.specs.Showing.{ShowsAsked}
 use Rattle.srm_node.specs.Nodes.{NodeView}
 use Rattle.srm_node.specs.Calls.{Calls}
-use Rattle.srm_node.specs.Turns.{ReadsNow, HearsNow, LooksNow, Paused}
+use Rattle.srm_node.specs.Turns.{ReadsNow, HearsNow, LooksNow, ShowsNow, Paused}
 use Rattle.srm_entries.specs.Sample.{config}
 use Rattle.srm_entries.proofs.Plain.{plain, right}
 
@@ -63,7 +64,7 @@ calls = record {
 
 -- member 0 of two over a wire that tells, which did no turn yet, waited once, and is to leave at this moment, if at any
 abbrev pub unturned : Option ℕ → LaneId → WellView → Node
-unturned asked lane well = record { journal = journal []; feeds = eight [] [] lane; well = well; hand = None; asked = asked; failures = 0; told = Some (record { came = []; went = [] }); wire = 1; clock = 1 }
+unturned asked lane well = record { journal = journal []; feeds = eight [] [] lane; well = well; hand = None; asked = asked; control = None; failures = 0; told = Some (record { came = []; went = [] }); wire = 1; clock = 1 }
 
 -- before it waited, by one call of its wire and one reading of its clock
 abbrev pub unpaused : Option ℕ → LaneId → WellView → Node
@@ -83,10 +84,9 @@ reads_once asked lane well = record { told = 1; reads = (refl, refl); counts = r
 abbrev pub heard_nothing : Option ℕ → LaneId → WellView → Node
 heard_nothing asked lane well = record (read_once asked lane well) { told = Some (record { came = None ∷ []; went = [] }); wire = 2 }
 
-pub hears_nothing : (asked : Option ℕ) (lane : LaneId) (well : WellView) → HearsNow calls.receives 1 false (read_once asked lane well) (heard_nothing asked lane well)
+pub hears_nothing : (asked : Option ℕ) (lane : LaneId) (well : WellView) → HearsNow calls.receives 1 0 false (read_once asked lane well) (heard_nothing asked lane well)
 hears_nothing asked lane well = record {
   listened = record {
-    count = 0;
     last = (None ∷ []) ∷ [];
     listens = record { came = []; entries = []; counted = refl; grown = refl; each = tt; told = record { told = refl }; receives = (2, (refl, refl), refl) };
     ends = inr (omega arith, refl);
@@ -101,6 +101,10 @@ looked asked lane well = record (heard_nothing asked lane well) { well = record 
 
 pub looks_once : (asked : Option ℕ) (lane : LaneId) (well : WellView) → LooksNow (heard_nothing asked lane well) (looked asked lane well)
 looks_once asked lane well = record { pens_done = true; same = refl }
+
+-- a node without a control shows nothing
+pub shows_nothing : (n : Node) → n.control ≡ None → ShowsNow 1 n n
+shows_nothing n none = record { shows = subst (λ c. ShowsAsked 1 n.journal n.journal c c) (sym none) (refl, refl); same = refl }
 
 -- GIVES
 

@@ -8,7 +8,8 @@ use Rattle.srm_node.specs.declared.fault.NodeFault.TheVariants.{Wire, Memory, Tu
 use Rattle.srm_wire.specs.declared.sent.Sent.{Sent}
 use Rattle.srm_wire.specs.Wires.{CountsIf, RoseOrFull, Sends, SendsEach, dispatched}
 use Rattle.srm_node.specs.Calls.{Calls}
-use Rattle.srm_node.specs.Parts.{Listened, ListenedCut, DrewStrokes, DrewStrokesCut, is_to_leave, still_asked, Leaves, Ticks, GivesUpTo, GaveSome}
+use Rattle.srm_node.specs.Parts.{Listened, ListenedCut, strokes_after, DrewStrokes, DrewStrokesCut, is_to_leave, still_asked, Leaves, Ticks, GivesUpTo, GaveSome}
+use Rattle.srm_node.specs.Showing.{ShowsAsked, ShowsAskedCut}
 use Rattle.srm_node.specs.Nodes.{NodeView, has_ended, moment_of}
 
 -- The clock was read once.
@@ -18,9 +19,9 @@ pub record ReadsNow {X C : Type 0} (Reads : C → ℕ → C → Type 0) (now : �
   pub counts : now ≡ moment_of told
   pub same : new ≡ record old { clock = new.clock }
 
--- What came was heard, all of it unless a call failed, and with the call that failed the hearing ends.
-pub record HearsNow {X C : Type 0} (Receives : X → ℕ → List (Option (List ℕ)) → X → Type 0) (now : ℕ) (unheard : Bool) (old new : NodeView X C) : Type 0 where
-  pub listened : Listened Receives now unheard old.journal new.journal old.told new.told old.wire new.wire
+-- What came was heard, so many datagrams, all of it unless a call failed, and with the call that failed the hearing ends.
+pub record HearsNow {X C : Type 0} (Receives : X → ℕ → List (Option (List ℕ)) → X → Type 0) (now count : ℕ) (unheard : Bool) (old new : NodeView X C) : Type 0 where
+  pub listened : Listened Receives now count unheard old.journal new.journal old.told new.told old.wire new.wire
   pub failures : CountsIf unheard old.failures new.failures
   pub same : new ≡ record old { journal = new.journal; failures = new.failures; told = new.told; wire = new.wire }
 
@@ -29,9 +30,9 @@ pub record LooksNow {X C : Type 0} (old new : NodeView X C) : Type 0 where
   pub pens_done : Bool
   pub same : new ≡ record old { well = record old.well { done_at = looked_at pens_done old.well.nones } }
 
--- Strokes were drawn, as far as the rate lets them go.
-pub record DrawsNow {X C : Type 0} (now : ℕ) (none_left : Bool) (old new : NodeView X C) : Type 0 where
-  pub drew : DrewStrokes now none_left old.journal new.journal old.well new.well old.hand new.hand
+-- Strokes were drawn, at most so many, as far as the rate lets them go.
+pub record DrawsNow {X C : Type 0} (now most : ℕ) (none_left : Bool) (old new : NodeView X C) : Type 0 where
+  pub drew : DrewStrokes now most none_left old.journal new.journal old.well new.well old.hand new.hand
   pub same : new ≡ record old { journal = new.journal; well = new.well; hand = new.hand }
 
 -- The member leaves where it is to by now, no stroke is left, and the well was found to have none after its pens said that they are done; else it stays,
@@ -39,6 +40,11 @@ pub record DrawsNow {X C : Type 0} (now : ℕ) (none_left : Bool) (old new : Nod
 pub record LeavesNow {X C : Type 0} (now : ℕ) (none_left : Bool) (old new : NodeView X C) : Type 0 where
   pub leaves : Leaves now (is_to_leave none_left (is_drained old.well) old.asked now) old.journal new.journal
   pub same : new ≡ record old { journal = new.journal; asked = still_asked (is_to_leave none_left (is_drained old.well) old.asked now) old.asked }
+
+-- What another thread asks for was looked at once: at most one page was shown or begun. Of a node without a control nothing was.
+pub record ShowsNow {X C : Type 0} (now : ℕ) (old new : NodeView X C) : Type 0 where
+  pub shows : ShowsAsked now old.journal new.journal old.control new.control
+  pub same : new ≡ record old { journal = new.journal; control = new.control }
 
 -- The member ticked once. What the tick sends was sent to each other member in order, whatever failed, and all of it went unless a call failed.
 pub record TicksNow {X C : Type 0} (SendsOne : X → Sent → Bool → X → Type 0) (now : ℕ) (unsent : Bool) (old new : NodeView X C) : Type 0 where
@@ -53,25 +59,35 @@ pub record GivesNow {X C : Type 0} (below : ℕ) (old new : NodeView X C) : Type
   pub gives : GivesUpTo below old.journal new.journal old.feeds new.feeds
   pub same : new ≡ record old { journal = new.journal; feeds = new.feeds }
 
--- A turn up to its leaving: the clock is read once, what came is heard, the pens are looked at, strokes are drawn, and the member leaves if that is due.
+-- A turn up to its leaving: the clock is read once, what came is heard, the pens are looked at, strokes are drawn, at most as many as may be behind what was heard, and
+-- the member leaves if that is due.
 pub record TurnToLeaving {X C : Type 0} (calls : Calls X C) (now : ℕ) (unheard : Bool) (old new : NodeView X C) : Type 0 where
   pub none_left : Bool
+  pub came : ℕ
+  pub most : ℕ
   pub read : NodeView X C
   pub heard : NodeView X C
   pub looked : NodeView X C
   pub drawn : NodeView X C
   pub reads : ReadsNow calls.reads now old read
-  pub hears : HearsNow calls.receives now unheard read heard
+  pub hears : HearsNow calls.receives now came unheard read heard
+  pub room : most ≡ strokes_after came
   pub looks : LooksNow heard looked
-  pub draws : DrawsNow now none_left looked drawn
+  pub draws : DrawsNow now most none_left looked drawn
   pub leaves : LeavesNow now none_left drawn new
+
+-- and then a page that another thread asks for is shown
+pub record TurnToShowing {X C : Type 0} (calls : Calls X C) (now : ℕ) (unheard : Bool) (old new : NodeView X C) : Type 0 where
+  pub left : NodeView X C
+  pub to_leaving : TurnToLeaving calls now unheard old left
+  pub shows : ShowsNow now left new
 
 -- and then it ticks once
 pub record TurnToTick {X C : Type 0} (calls : Calls X C) (unheard unsent : Bool) (old new : NodeView X C) : Type 0 where
   pub now : ℕ
-  pub left : NodeView X C
-  pub to_leaving : TurnToLeaving calls now unheard old left
-  pub ticks : TicksNow calls.sends now unsent left new
+  pub shown : NodeView X C
+  pub to_showing : TurnToShowing calls now unheard old shown
+  pub ticks : TicksNow calls.sends now unsent shown new
 
 -- a turn, by which all slots are served behind the tick
 pub record Turned {X C : Type 0} (calls : Calls X C) (unheard unsent : Bool) (old new : NodeView X C) : Type 0 where
@@ -94,9 +110,14 @@ pub record HearsCut {X C : Type 0} (Receives : X → ℕ → List (Option (List 
   pub same : new ≡ record old { journal = new.journal; failures = new.failures; told = new.told; wire = new.wire }
 
 -- Memory ran out while it drew: the stroke is in hand.
-pub record DrawsCut {X C : Type 0} (now : ℕ) (old new : NodeView X C) : Type 0 where
-  pub drew : DrewStrokesCut now old.journal new.journal old.well new.well old.hand new.hand
+pub record DrawsCut {X C : Type 0} (now most : ℕ) (old new : NodeView X C) : Type 0 where
+  pub drew : DrewStrokesCut now most old.journal new.journal old.well new.well old.hand new.hand
   pub same : new ≡ record old { journal = new.journal; well = new.well; hand = new.hand }
+
+-- Memory ran out while it showed a page: the command is in hand.
+pub record ShowsCut {X C : Type 0} (old new : NodeView X C) : Type 0 where
+  pub shows : ShowsAskedCut old.journal new.journal old.control new.control
+  pub same : new ≡ record old { journal = new.journal; control = new.control }
 
 -- Memory ran out while it gave, in one of the slots: those before it are served, and each lane carries what was given.
 pub record GivesCut {X C : Type 0} (old new : NodeView X C) : Type 0 where
@@ -114,32 +135,46 @@ pub record CutHearing {X C : Type 0} (calls : Calls X C) (old new : NodeView X C
 pub record CutDrawing {X C : Type 0} (calls : Calls X C) (old new : NodeView X C) : Type 0 where
   pub now : ℕ
   pub unheard : Bool
+  pub came : ℕ
+  pub most : ℕ
   pub read : NodeView X C
   pub heard : NodeView X C
   pub looked : NodeView X C
   pub reads : ReadsNow calls.reads now old read
-  pub hears : HearsNow calls.receives now unheard read heard
+  pub hears : HearsNow calls.receives now came unheard read heard
+  pub room : most ≡ strokes_after came
   pub looks : LooksNow heard looked
-  pub draws : DrawsCut now looked new
+  pub draws : DrawsCut now most looked new
 
 -- as it was to leave, of which nothing was done
 pub record CutLeaving {X C : Type 0} (calls : Calls X C) (old new : NodeView X C) : Type 0 where
   pub now : ℕ
   pub none_left : Bool
   pub unheard : Bool
+  pub came : ℕ
+  pub most : ℕ
   pub read : NodeView X C
   pub heard : NodeView X C
   pub looked : NodeView X C
   pub reads : ReadsNow calls.reads now old read
-  pub hears : HearsNow calls.receives now unheard read heard
+  pub hears : HearsNow calls.receives now came unheard read heard
+  pub room : most ≡ strokes_after came
   pub looks : LooksNow heard looked
-  pub draws : DrawsNow now none_left looked new
+  pub draws : DrawsNow now most none_left looked new
+
+-- while it showed a page
+pub record CutShowing {X C : Type 0} (calls : Calls X C) (old new : NodeView X C) : Type 0 where
+  pub now : ℕ
+  pub unheard : Bool
+  pub left : NodeView X C
+  pub to_leaving : TurnToLeaving calls now unheard old left
+  pub shows : ShowsCut left new
 
 -- as it was to tick, of which nothing was done
 pub record CutTicking {X C : Type 0} (calls : Calls X C) (old new : NodeView X C) : Type 0 where
   pub now : ℕ
   pub unheard : Bool
-  pub to_leaving : TurnToLeaving calls now unheard old new
+  pub to_showing : TurnToShowing calls now unheard old new
 
 -- while it gave
 pub record CutGiving {X C : Type 0} (calls : Calls X C) (old new : NodeView X C) : Type 0 where
@@ -151,7 +186,7 @@ pub record CutGiving {X C : Type 0} (calls : Calls X C) (old new : NodeView X C)
 
 -- The turn was cut by want of memory, in one of its parts. The parts before were done, each as in a whole turn.
 abbrev pub IsCut : {X C : Type 0} → Calls X C → NodeView X C → NodeView X C → Type 0
-IsCut calls old new = CutHearing calls old new ⊎ CutDrawing calls old new ⊎ CutLeaving calls old new ⊎ CutTicking calls old new ⊎ CutGiving calls old new
+IsCut calls old new = CutHearing calls old new ⊎ CutDrawing calls old new ⊎ CutLeaving calls old new ⊎ CutShowing calls old new ⊎ CutTicking calls old new ⊎ CutGiving calls old new
 
 abbrev pub TurnEnds : {X C : Type 0} → Calls X C → Result (Unit {0}) NodeFault → NodeView X C → NodeView X C → Type 0
 TurnEnds calls (Ok _) old new = Turned calls false false old new

@@ -27,7 +27,7 @@ use Rattle.srm_world.proofs.Lawful.{lawful_journal}
 use Rattle.srm_wire.specs.Wires.{bytes_to}
 use Rattle.srm_node.specs.Carrying.{Carries, CarriesEach, DrawsReceived}
 use Rattle.srm_node.specs.Parts.{IsAdmitted, is_to_leave, still_asked}
-use Rattle.srm_node.specs.TurnSample.{Node, at_each, feed, eight, journal, calls, unturned, read_once, reads_once, heard_nothing, hears_nothing, looked, looks_once, gives_as, opens_as, give_right, gives_up_to}
+use Rattle.srm_node.specs.TurnSample.{Node, at_each, feed, eight, journal, calls, unturned, read_once, reads_once, heard_nothing, hears_nothing, looked, looks_once, shows_nothing, gives_as, opens_as, give_right, gives_up_to}
 use Rattle.srm_node.specs.Nodes.{AreNewFeeds, IsNewJournal, IsNewNode, IsMadeNow}
 use Rattle.srm_node.specs.Turns.{DrawsNow, LeavesNow, TicksNow, GivesNow, DrawsCut, Turned, TurnEnds, IsCut}
 
@@ -192,7 +192,7 @@ after lane well = record (ticked lane well) { journal = journal entries; feeds =
 admitted : IsAdmitted 1 (journal []) stroke true
 admitted = record { goings = ([], refl, tt, tt); is = refl }
 
-draws_it : (lane : LaneId) (well : WellView) → DrawsNow 1 true (looked None lane well) (drawn lane well)
+draws_it : (lane : LaneId) (well : WellView) → DrawsNow 1 64 true (looked None lane well) (drawn lane well)
 draws_it lane well = record {
   drew = record {
     count = 1;
@@ -242,18 +242,25 @@ whole lane well = record {
   ticked = ticked lane well;
   to_tick = record {
     now = 1;
-    left = drawn lane well;
-    to_leaving = record {
-      none_left = true;
-      read = read_once None lane well;
-      heard = heard lane well;
-      looked = looked None lane well;
-      drawn = drawn lane well;
-      reads = reads_once None lane well;
-      hears = hears_nothing None lane well;
-      looks = looks_once None lane well;
-      draws = draws_it lane well;
-      leaves = stays lane well;
+    shown = drawn lane well;
+    to_showing = record {
+      left = drawn lane well;
+      to_leaving = record {
+        none_left = true;
+        came = 0;
+        most = 64;
+        read = read_once None lane well;
+        heard = heard lane well;
+        looked = looked None lane well;
+        drawn = drawn lane well;
+        reads = reads_once None lane well;
+        hears = hears_nothing None lane well;
+        looks = looks_once None lane well;
+        room = refl;
+        draws = draws_it lane well;
+        leaves = stays lane well;
+      };
+      shows = shows_nothing (drawn lane well) refl;
     };
     ticks = ticks_once lane well;
   };
@@ -283,7 +290,7 @@ keeps_it = refl
 abbrev cut : LaneId → WellView → Node
 cut lane well = record (heard lane well) { well = popped 0 well; hand = Some stroke }
 
-draws_none : (lane : LaneId) (well : WellView) → DrawsCut 1 (looked None lane well) (cut lane well)
+draws_none : (lane : LaneId) (well : WellView) → DrawsCut 1 64 (looked None lane well) (cut lane well)
 draws_none lane well = record {
   drew = record {
     count = 0;
@@ -299,8 +306,8 @@ draws_none lane well = record {
 }
 
 cut_drawing : (lane : LaneId) (well : WellView) → IsCut calls (before lane well) (cut lane well)
-cut_drawing lane well = inr (inl (record { now = 1; unheard = false; read = read_once None lane well; heard = heard lane well; looked = looked None lane well; reads = reads_once None lane well; hears = hears_nothing None lane well; looks = looks_once None lane well; draws = draws_none lane well }))
+cut_drawing lane well = inr (inl (record { now = 1; unheard = false; came = 0; most = 64; read = read_once None lane well; heard = heard lane well; looked = looked None lane well; reads = reads_once None lane well; hears = hears_nothing None lane well; looks = looks_once None lane well; room = refl; draws = draws_none lane well }))
 
 -- where the stroke isn't in hand the turn isn't cut so
-not_lost : (lane : LaneId) (well : WellView) → DrawsCut 1 (looked None lane well) (record (cut lane well) { hand = None }) → ⊥
+not_lost : (lane : LaneId) (well : WellView) → DrawsCut 1 64 (looked None lane well) (record (cut lane well) { hand = None }) → ⊥
 not_lost lane well h = let some : false ≡ true = h.drew.in_hand in cc

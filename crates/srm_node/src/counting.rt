@@ -6,18 +6,18 @@ ghost use Rattle.srm_node.specs.Counting.{came_as_noise, was_dropped, was_ignore
 
 use srm_agent::{CAUSES, Entry, Input, Verdict};
 
-/// How much of what a member was given came to nothing. Each number stays at the greatest of 64 bits when it gets there.
+/// How much of what a member was given came to nothing. Each count stops at 2^64 - 1.
 #[derive(Clone, Copy, Debug, PartialEq, Eq)]
 pub struct Counts {
-    /// What came that is no datagram of the session, or came to a member that is gone.
+    /// The datagrams that are none of the session, or came to a member that was gone.
     pub noise: u64,
-    /// What was ignored, by its cause, in this order: Own, Gone, Conflict, PageLimit, BeyondFinal, Decode, Stranger.
+    /// The datagrams that were ignored, by cause, in this order: Own, Gone, Conflict, PageLimit, BeyondFinal, Decode, Stranger.
     pub ignored: [u64; CAUSES],
-    /// The strokes that were refused.
+    /// The strokes that the agent refused.
     pub dropped: u64,
 }
 
-/// Counts over all entries. It takes no memory.
+/// Counts over all entries. Takes no memory.
 pub fn counts_in(entries: &[Entry]) -> Counts
     ensures { result ≡ counts_of entries.now }
 {

@@ -1,13 +1,13 @@
-//! Drawing what the pens sent.
+//! Drawing what the producers sent.
 
-ghost use Rattle.std.specs.Prelude.{◌≡◌, ◌≤◌, true, is_none, option_to_list, MatchResult};
+ghost use Rattle.std.specs.Prelude.{◌≡◌, ◌<◌, ◌≤◌, true, is_none, option_to_list, MatchResult};
 ghost use Rattle.srm_names.specs.declared.limits.TheConstants.{LATEST_MOMENT};
 ghost use Rattle.srm_world.specs.Claims.{IsLawfulJournal};
-ghost use Rattle.srm_node.specs.Parts.{PopsStrokes, once, IsAdmitted, DrawsOne, DrewStrokes, DrewStrokesCut};
+ghost use Rattle.srm_node.specs.Parts.{strokes_after, PopsStrokes, once, IsAdmitted, DrawsOne, DrewStrokes, DrewStrokesCut};
 ghost use Rattle.srm_node.specs.Waits.{WaitsByWords};
 
 use crate::fault::{OutOfMemory, is_memory};
-use crate::limits::STROKES_A_TURN;
+use crate::limits::{STROKES_A_TURN, STROKES_AT_LEAST};
 use srm_agent::Entry;
 use srm_pages::Stroke;
 use srm_pages::ends::Well;
@@ -15,7 +15,7 @@ use srm_timers::Words;
 use srm_world::{Past, Recorder};
 use std::sync::Wait;
 
-/// What a turn drew: how many strokes, and whether none was left, in the well or in hand.
+/// What a turn drew: how many strokes, and whether none is left, in the queue or in hand.
 #[derive(Clone, Copy)]
 pub struct Drawn {
     pub count: u8,
@@ -31,24 +31,35 @@ impl Drawn {
     }
 }
 
-/// Draws up to 64 strokes, the one in hand first, as long as the rate lets their datagrams go at once. Answers the stroke that is then in
-/// hand: one that the rate keeps back, or for which memory was refused. A stroke that is refused for another cause is dropped.
+/// Returns how many strokes a turn may draw that heard so many datagrams: 64 less these, and never fewer than 8. So members that all draw leave one another room to be
+/// heard, and a flood of noise stops nobody from drawing.
+pub fn strokes_after(heard: u8) -> u8
+    ensures value { result ≡ strokes_after heard }
+    ensures some { 0 < result }
+{
+    STROKES_A_TURN.saturating_sub(heard).max(STROKES_AT_LEAST)
+}
+
+/// Draws up to `most` strokes, the one in hand first, as long as the rate lets their datagrams go at once. Returns the stroke that is in hand then: one that the rate
+/// keeps back, or that memory ran out for. A stroke that the agent refuses for another cause is dropped.
 pub fn draw_strokes<R: Wait, W: Words + Drop, P: Past<Entry> + Drop>(
     rt: &R,
     recorder: &mut Recorder<W, P>,
     well: &mut Well,
     hand: Option<Stroke>,
+    most: u8,
     now: u64,
 ) -> (Option<Stroke>, Result<Drawn, OutOfMemory>)
+    requires some { 0 < most }
     requires moment { now ≤ LATEST_MOMENT }
     requires lawful { IsLawfulJournal recorder.old.journal }
     ensures lawful { IsLawfulJournal recorder.new.journal }
     ensures words { WaitsByWords W.next_word recorder.old recorder.new }
-    ensures draws { MatchResult result.1 (λ drawn. DrewStrokes now drawn.none_left recorder.old.journal recorder.new.journal well.old well.new hand result.0)
-        (λ _. DrewStrokesCut now recorder.old.journal recorder.new.journal well.old well.new hand result.0) }
+    ensures draws { MatchResult result.1 (λ drawn. DrewStrokes now most drawn.none_left recorder.old.journal recorder.new.journal well.old well.new hand result.0)
+        (λ _. DrewStrokesCut now most recorder.old.journal recorder.new.journal well.old well.new hand result.0) }
 {
     let mut kept = hand;
-    for count in 0..STROKES_A_TURN {
+    for count in 0..most {
         let Some(stroke) = next_stroke(rt, well, kept) else {
             return (None, Ok(Drawn::new(count, true)));
         };
@@ -60,10 +71,10 @@ pub fn draw_strokes<R: Wait, W: Words + Drop, P: Past<Entry> + Drop>(
         };
         kept = None;
     }
-    (None, Ok(Drawn::new(STROKES_A_TURN, false)))
+    (None, Ok(Drawn::new(most, false)))
 }
 
-// The stroke in hand, if there is one, else the front one of the well. None where the well had none.
+// The stroke in hand, if there is one, else the front one of the queue, if there is one.
 fn next_stroke<R: Wait>(rt: &R, well: &mut Well, hand: Option<Stroke>) -> Option<Stroke>
     ensures { PopsStrokes (once (is_none result)) well.old well.new (option_to_list hand) (option_to_list result) }
 {
@@ -84,7 +95,7 @@ fn is_admitted<W: Words + Drop, P: Past<Entry> + Drop>(
     recorder.admits_draw(stroke.body.len(), now)
 }
 
-// Draws a stroke that is admitted. Only want of memory keeps it back.
+// Draws a stroke that is admitted. Fails only if out of memory.
 fn draw_stroke<W: Words + Drop, P: Past<Entry> + Drop>(
     recorder: &mut Recorder<W, P>,
     stroke: &Stroke,

@@ -11,14 +11,14 @@ use srm_names::PAGES;
 use srm_pages::Feed;
 use std::alloc::{AllocError, Global};
 
-/// That no feed put its close yet.
+/// Notes for each of the eight feeds that it hasn't put its close. Fails only if out of memory.
 pub fn none_closed(alloc: Global) -> Result<Vec<bool>, AllocError>
     ensures { IfOk result (λ closed. closed.items ≡ replicate PAGES false) }
 {
     vec![in alloc; false; usize::from(PAGES)]
 }
 
-/// Whether a member in this state is gone, and nothing more comes of any of these feeds.
+/// Whether a member in this state is gone, and each of these feeds has put its close or is disconnected.
 pub fn is_ended(after: AgentState, feeds: &[Feed], closed: &[bool]) -> bool
     requires { closed.now ≡ map has_closed feeds.now }
     ensures { result ≡ (is_gone after && list_all has_nothing_more feeds.now) }
@@ -27,7 +27,7 @@ pub fn is_ended(after: AgentState, feeds: &[Feed], closed: &[bool]) -> bool
     gone & are_done(feeds, closed)
 }
 
-// Whether each feed is disconnected, or put its close.
+// Whether each feed is disconnected or has put its close.
 fn are_done(feeds: &[Feed], closed: &[bool]) -> bool
     requires { closed.now ≡ map has_closed feeds.now }
     ensures { result ≡ list_all has_nothing_more feeds.now }

@@ -18,7 +18,9 @@ use srm_timers::Words;
 use srm_world::{Past, Recorder};
 use std::sync::Wait;
 
-/// Gives each slot while there is credit and something to give, unless its feed is disconnected. Keeps for each feed whether it put its close.
+/// Gives each page slot messages while there is credit and something to give, unless its feed is disconnected. `closed` keeps for each feed whether it put its close.
+///
+/// Fails only if out of memory. The slots before are served then.
 pub fn give_all<R: Wait, W: Words + Drop, P: Past<Entry> + Drop>(
     rt: &R,
     recorder: &mut Recorder<W, P>,

@@ -26,7 +26,7 @@ use std::sync::Wait;
 use std::thread;
 use std::thread::{Promise, PromisedHandle, Threads};
 
-/// A worker's promise: its tap is of the lane of this one, it took what its list has, this sink saw each of these messages, and it ended as it says.
+/// A worker's promise: its tap is of this tap's lane, it took what its list has, this sink saw each message of the list, and it ended as it says.
 #[derive(Drop)]
 pub struct WorksOn<S: PageSink>(Snapshot<Tap>, Snapshot<S>);
 
@@ -42,20 +42,21 @@ pub struct Worker<L: Past<PageMsg> + Drop, S: PageSink> {
     handle: PromisedHandle<Worked<L>, WorksOn<S>>,
 }
 
-/// What became of a node and its workers. The node keeps its entries, and each worker what it took, unless other pasts are named.
+/// What became of a node and its workers. The node keeps its entries, and each worker what it took, unless other histories are named.
 #[derive(Drop)]
 pub struct Hosted<P: Past<Entry> + Drop = Vec<Entry>, L: Past<PageMsg> + Drop = Vec<PageMsg>> {
     pub journal: Journal<P>,
-    /// None after a fault: they were let go, so that the workers end.
+    /// Empty after a fault: the feeds were dropped, so that the workers end.
     pub feeds: Vec<Feed>,
     pub worked: Vec<Worked<L>>,
     pub end: Result<(), NodeFault>,
 }
 
-/// Runs a node in this thread, and in threads of their own eight page workers, one for each tap and its sink, which sees what that tap takes. After a
-/// fault the feeds are let go, so that the workers end. Where a worker can't be started, the end is fault 2, the node isn't turned, and those that were started
-/// are handed back. Only want of memory before any worker is started refuses it. The type that the caller names for the workers' lists says how they
-/// are kept, as with [`work`].
+/// Runs a node in this thread for up to `turns` turns, and eight page workers in threads beside it, one for each tap, which shows the sink at its place what it takes.
+/// Waits for the workers. The type that the caller names for their lists says how these are kept, as with [`work`].
+///
+/// After a fault of the node the feeds are dropped, so that the workers end. If a worker can't be started, the end is `Memory`, the node isn't turned, and the workers
+/// that were started are returned. Fails only if out of memory before any worker is started.
 pub fn host<
     R: Threads + Wait + Copy + Send + 'static,
     W: Words + Drop,
@@ -82,7 +83,7 @@ pub fn host<
     Ok(hosted)
 }
 
-/// The same, and hands the node's well back too, so that its pens can be put beside what it received ([`Well::join_pen`]).
+/// Does what [`host`] does, and returns the node's stroke queue too, so that its producers can be put beside what it received ([`Well::join_pen`]).
 #[tactic(auto, using(crate::proofs::Hosts::host_ends, crate::proofs::Hosts::host_lanes))]
 pub fn host_with_well<
     R: Threads + Wait + Copy + Send + 'static,
@@ -112,7 +113,7 @@ pub fn host_with_well<
     Ok(go(rt, alloc, node, all, turns, workers, worked))
 }
 
-// No workers yet, and nothing that they handed back.
+// Room for the workers, and for what they return.
 fn places<L: Past<PageMsg> + Drop, S: PageSink>(
     alloc: Global,
 ) -> Result<(VecDeque<Worker<L, S>>, Vec<Worked<L>>), AllocError>
@@ -125,7 +126,7 @@ fn places<L: Past<PageMsg> + Drop, S: PageSink>(
     Ok((workers, worked))
 }
 
-// Runs the node where all workers were started, and waits for them.
+// Runs the node if all workers were started, and waits for them.
 fn go<
     R: Threads + Wait,
     W: Words + Drop,
@@ -150,7 +151,7 @@ fn go<
 {
     let mut node = node;
     let end = run_if(rt, &mut node, all, turns);
-    let (journal, feeds, well) = node.into_parts();
+    let (journal, feeds, well, _) = node.into_parts();
     let feeds = kept(alloc, feeds, end.is_ok());
     let worked = join_all(rt, workers, worked);
     let hosted = Hosted {
@@ -188,7 +189,7 @@ fn begin<
     start_all(rt, alloc, &mut taps, &mut sinks, workers, worked)
 }
 
-// Runs the node where all workers were started.
+// Runs the node if all workers were started.
 fn run_if<R: Wait, W: Words + Drop, X: Wire + Drop, C: Clock + Drop, P: Past<Entry> + Drop>(
     rt: &R,
     node: &mut Node<W, X, C, P>,
@@ -203,7 +204,7 @@ fn run_if<R: Wait, W: Words + Drop, X: Wire + Drop, C: Clock + Drop, P: Past<Ent
     node.run(rt, turns)
 }
 
-// The feeds, or none, and they are let go.
+// The feeds, or none: they are dropped.
 fn kept(alloc: Global, feeds: Vec<Feed>, keeps: bool) -> Vec<Feed>
     ensures feeds { OnTrue keeps (result.items ≡ feeds.items) }
     ensures none { OnFalse keeps (result.items ≡ []) }
@@ -268,7 +269,7 @@ fn start_next<
     start_one(rt, alloc, tap, sink, workers, worked)
 }
 
-// Starts a worker once there is a place for what it hands back. Whether it was started.
+// Starts a worker once there is room for what it returns. Whether it was started.
 fn start_one<
     R: Threads + Wait + Copy + Send + 'static,
     S: PageSink + Send + Drop + 'static,
@@ -299,7 +300,7 @@ fn start_one<
     workers.push_back(worker).is_ok()
 }
 
-// Starts a worker. None where there is no thread for it.
+// Starts a worker, if there is a thread for it.
 fn start<
     R: Threads + Wait + Copy + Send + 'static,
     S: PageSink + Send + Drop + 'static,
@@ -351,7 +352,7 @@ fn join_one<R: Threads, S: PageSink, L: Past<PageMsg> + Drop>(
     handle.join(rt)
 }
 
-// Puts one where there is a place for it.
+// Puts one into the room that was made for it.
 fn put<L: Past<PageMsg> + Drop>(worked: &mut Vec<Worked<L>>, one: Worked<L>)
     requires { vec_len worked.old < vec_capacity worked.old }
     ensures items { worked.new.items ≡ worked.old.items ++ one ∷ [] }

@@ -1,4 +1,17 @@
-//! A member that takes part in a session: its agent over a wire and a clock, with page workers and local pens in threads.
+//! A member that takes part in a session: an agent with a wire and a clock, with page workers and producers of strokes in threads.
+//!
+//! A [`Node`] turns: it hears what came, draws what its producers sent, shows the page that another thread asks for, ticks, sends, and gives the page workers their messages.
+//! [`host`] runs a node and its eight page workers until the member has left.
+//!
+//! ```
+//! let mut node = Node::new(alloc, config, words, wire, clock, feeds, well)?;
+//! let control = node.control(alloc)?; // With it another thread shows pages.
+//! node.ask_leave(at);
+//! let hosted = host(&rt, alloc, node, taps, sinks, turns)?;
+//! ```
+//!
+//! **Errors.** A turn ends with a [`NodeFault`] if a call of the wire failed or memory ran out, a run also if its turns are spent; either may be called again. What makes a
+//! node, a control or a host fails only if out of memory, with `AllocError`.
 #![tactic(auto)]
 
 mod counting;
@@ -12,6 +25,7 @@ mod listening;
 mod node;
 mod pausing;
 mod sending;
+mod showing;
 mod sink;
 mod spare;
 mod ticking;

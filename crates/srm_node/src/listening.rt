@@ -22,8 +22,7 @@ pub struct Listening {
     pub failed: bool,
 }
 
-/// Hears what came: up to 64 datagrams, until none is there or a receive fails. Where memory runs out, a datagram in hand counts as
-/// lost.
+/// Hears what came: up to 64 datagrams, until none is there or a receive fails. Fails only if out of memory, and then the datagram that was being heard is lost.
 pub fn listen<W: Words + Drop, P: Past<Entry> + Drop, X: Wire>(
     recorder: &mut Recorder<W, P>,
     wire: &mut X,
@@ -36,7 +35,7 @@ pub fn listen<W: Words + Drop, P: Past<Entry> + Drop, X: Wire>(
     ensures lawful { IsLawfulJournal recorder.new.journal }
     ensures words { WaitsByWords W.next_word recorder.old recorder.new }
     ensures failures { MatchResult result (λ heard. CountsIf heard.failed (X.failure_count wire.old) (X.failure_count wire.new)) (λ _. CountsIf false (X.failure_count wire.old) (X.failure_count wire.new)) }
-    ensures hears { MatchResult result (λ heard. Listened X.receives now heard.failed recorder.old.journal recorder.new.journal (X.told wire.old) (X.told wire.new) wire.old wire.new)
+    ensures hears { MatchResult result (λ heard. Listened X.receives now heard.count heard.failed recorder.old.journal recorder.new.journal (X.told wire.old) (X.told wire.new) wire.old wire.new)
         (λ _. ListenedCut X.receives now recorder.old.journal recorder.new.journal (X.told wire.old) (X.told wire.new) wire.old wire.new) }
 {
     for count in 0..DATAGRAMS_A_TURN {

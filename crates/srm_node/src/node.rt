@@ -1,28 +1,30 @@
 //! A member that takes part in a session.
 
-ghost use Rattle.std.specs.Prelude.{◌≡◌, ◌≤◌, [], Some, None, IfOk, MatchResult};
+ghost use Rattle.std.specs.Prelude.{◌≡◌, ◌<◌, ◌≤◌, [], Some, None, IfOk, MatchResult};
 ghost use Rattle.srm_names.specs.declared.limits.TheConstants.{LATEST_MOMENT, PAGES};
 ghost use Rattle.srm_names.specs.Moments.{has_come};
+ghost use Rattle.srm_control.specs.Ends.{new_control, new_commands};
 ghost use Rattle.srm_node.specs.Counting.{counts_of};
 ghost use Rattle.srm_node.specs.Calls.{calls_of};
 ghost use Rattle.srm_node.specs.Nodes.{NodeKeepsLists, AreNewFeeds, IsNewJournal, IsNewNode, IsMadeNow, has_ended, recorded_in};
 ghost use Rattle.srm_node.specs.Parts.{still_asked};
 ghost use Rattle.srm_node.specs.Waits.{WaitsByWords};
 ghost use Rattle.srm_node.specs.Moments.{GrowsNow};
-ghost use Rattle.srm_node.specs.Turns.{ReadsNow, HearsNow, LooksNow, DrawsNow, LeavesNow, TicksNow, GivesNow, HearsCut, DrawsCut, GivesCut, TurnEnds, Paused, RunEnds};
+ghost use Rattle.srm_node.specs.Turns.{ReadsNow, HearsNow, LooksNow, DrawsNow, LeavesNow, ShowsNow, TicksNow, GivesNow, HearsCut, DrawsCut, ShowsCut, GivesCut, TurnEnds, Paused, RunEnds};
 
 use crate::counting::{Counts, counts_in};
-use crate::drawing::draw_strokes;
+use crate::drawing::{draw_strokes, strokes_after};
 use crate::ending::is_ended;
 use crate::fault::{NodeFault, OutOfMemory};
 use crate::giving::give_all;
-use crate::limits::{DATAGRAMS_A_TURN, STROKES_A_TURN};
-use crate::listening::listen;
-use crate::pausing::time_to_pause;
+use crate::listening::{Listening, listen};
+use crate::pausing::{Turn, time_to_pause};
 use crate::sending::send_all;
+use crate::showing::show_asked;
 use crate::spare::{Spare, make_spare};
 use crate::ticking::{leave, tick};
 use srm_agent::{Config, Entry};
+use srm_control::{PageCommands, PageControl, page_control};
 use srm_deadlines::lesser;
 use srm_names::{LATEST_MOMENT, has_come};
 use srm_pages::ends::Well;
@@ -34,8 +36,9 @@ use std::alloc::{AllocError, Global};
 use std::marker::Model;
 use std::sync::Wait;
 
-/// A member that takes part in a session: its agent over a wire and a clock, the feeds of its page workers, and the well of its pens.
-/// Contracts see it as a record, with its wire and its clock as they stand, and its words.
+/// A member that takes part in a session: its agent, a wire, a clock, the feeds of its page workers, its stroke queue, and its end of a control if it has one.
+///
+/// All times are microseconds. Contracts see a record of these parts, with the wire and the clock as they stand, and the generator of random numbers.
 #[derive(Drop)]
 pub struct Node<
     W: Words + Drop,
@@ -51,13 +54,13 @@ pub struct Node<
     wire: X,
     clock: C,
     buffer: Vec<u8>,
-    // The moment from which it is to leave, if it was asked to and hasn't.
+    // The moment from which it is to leave, if it was asked to and hasn't left.
     asked: Option<u64>,
+    commands: Option<PageCommands>,
     // For each feed, whether it put its close.
     closed: Vec<bool>,
-    // How many datagrams the last turn heard, and how many strokes it drew.
-    heard: u8,
-    drawn: u8,
+    // What the last turn did.
+    last: Turn,
 }
 
 impl<W: Words + Drop, X: Wire + Drop, C: Clock + Drop, P: Past<Entry> + Drop> Model
@@ -74,6 +77,7 @@ impl<W: Words + Drop, X: Wire + Drop, C: Clock + Drop, P: Past<Entry> + Drop> Mo
         well = n.well;
         hand = n.hand;
         asked = n.asked;
+        control = n.commands;
         failures = X.failure_count n.wire;
         told = X.told n.wire;
         wire = n.wire;
@@ -88,6 +92,7 @@ impl<W: Words + Drop, X: Wire + Drop, C: Clock + Drop, P: Past<Entry> + Drop> Mo
       well = n.well;
       hand = n.hand;
       asked = n.asked;
+      control = n.commands;
       failures = X.failure_count n.wire;
       told = X.told n.wire;
       wire = n.wire;
@@ -96,8 +101,10 @@ impl<W: Words + Drop, X: Wire + Drop, C: Clock + Drop, P: Past<Entry> + Drop> Mo
 }
 
 impl<W: Words + Drop, X: Wire + Drop, C: Clock + Drop> Node<W, X, C> {
-    /// A node that did nothing yet; its clock is read once. The feeds are eight that put nothing and aren't disconnected, and nothing was received of the well. Only
-    /// want of memory refuses it.
+    /// Makes a node that has done nothing yet. Reads the clock once: its moment is the one at which the member is made. There are eight feeds, one for each page slot.
+    /// None has put anything or is disconnected, and nothing was received from the stroke queue.
+    ///
+    /// Fails only if out of memory.
     pub fn new(
         alloc: Global,
         config: Config,
@@ -117,7 +124,7 @@ impl<W: Words + Drop, X: Wire + Drop, C: Clock + Drop> Node<W, X, C> {
         Node::with_past(alloc, config, words, wire, clock, feeds, well, past)
     }
 
-    /// How much of what the member was given came to nothing so far. It takes no memory, and looks at all entries.
+    /// Counts how much of what the member was given came to nothing so far. Looks at all entries, and takes no memory.
     pub fn counts(&self) -> Counts
         ensures { result ≡ counts_of self.now.view.journal.entries }
     {
@@ -126,7 +133,8 @@ impl<W: Words + Drop, X: Wire + Drop, C: Clock + Drop> Node<W, X, C> {
 }
 
 impl<W: Words + Drop, X: Wire + Drop, C: Clock + Drop> Node<W, X, C, Forgotten<Entry>> {
-    /// The same that keeps no entry, for a member that runs for days. Its calls have the same contracts, which speak of the journal that it would keep.
+    /// Makes a node that keeps no entry, for a member that runs for days, and else does what [`new`](Node::new) does. Its calls have the same contracts, which speak of
+    /// the journal that it would keep.
     pub fn forgetful(
         alloc: Global,
         config: Config,
@@ -148,7 +156,7 @@ impl<W: Words + Drop, X: Wire + Drop, C: Clock + Drop> Node<W, X, C, Forgotten<E
 }
 
 impl<W: Words + Drop, X: Wire + Drop, C: Clock + Drop, P: Past<Entry> + Drop> Node<W, X, C, P> {
-    /// As [`new`](Node::new), with a past of the caller's, which has no entry yet.
+    /// Does what [`new`](Node::new) does, with a history that the caller passes in, which has no entry yet.
     pub fn with_past(
         alloc: Global,
         config: Config,
@@ -201,31 +209,49 @@ impl<W: Words + Drop, X: Wire + Drop, C: Clock + Drop, P: Past<Entry> + Drop> No
             clock,
             buffer,
             asked: None,
+            commands: None,
             closed,
-            // As after a full turn: the first one comes at once.
-            heard: DATAGRAMS_A_TURN,
-            drawn: STROKES_A_TURN,
+            // The first turn comes at once.
+            last: Turn::full(),
         })
     }
 
-    /// The node leaves at the first turn at or after this moment, in microseconds, that finds no stroke in the well or in hand after its pens said that
-    /// they are done.
-    /// One that was asked before is asked for this moment instead. A clock that is past 2^48 counts as 2^48, so a later moment never comes.
+    /// Asks the node to leave from the moment `at` on, in microseconds. It leaves in its first turn from then on that finds no stroke in the queue or in hand after all
+    /// producers have said that they are done. A later call replaces an earlier one. A clock past 2^48 counts as 2^48, so a moment after that never comes. Takes no
+    /// memory.
     pub fn ask_leave(&mut self, at: u64)
         ensures { self.new ≡ record self.old { view = record self.old.view { asked = Some at } } }
     {
         self.asked = Some(at);
     }
 
-    /// One turn: the clock is read once; what came is heard, up to 64 datagrams; up to 64 strokes are drawn, as long as the rate lets their datagrams
-    /// go at once; the member leaves if that is due, no stroke is left, and the well was found empty after its pens said that they are done; it ticks
-    /// once, and what the tick sends is sent to every other member, rising; and each slot is given while there is credit. A stroke that the rate
-    /// keeps back is in hand for the next turn.
+    /// Makes a handle by which one other thread shows and begins pages of the member. Each turn carries out its next command, in order, and answers it. A handle that
+    /// was made before is disconnected: its commands that have no answer get none.
     ///
-    /// After fault 1, by which a call of the wire failed, the turn was done to its end: a receive that failed ended the hearing, each datagram of
-    /// the tick was tried to each other member all the same, and what couldn't be sent counts as lost. After
-    /// fault 2 it was cut in one of its parts, and the parts before were done: a stroke in hand is kept for the next turn, a datagram in
-    /// hand counts as lost. Fault 2 is the answer too where fault 1 would have come in that turn.
+    /// Fails only if out of memory, and then nothing has changed.
+    pub fn control(&mut self, alloc: Global) -> Result<PageControl, AllocError>
+        ensures { MatchResult result
+            (λ control. (control ≡ new_control control.out control.back) × (self.new ≡ record self.old { view = record self.old.view { control = Some (new_commands control.out control.back) } }))
+            (λ _. self.new ≡ self.old) }
+    {
+        let (control, commands) = page_control(alloc)?;
+        self.commands = Some(commands);
+        Ok(control)
+    }
+
+    /// Turns once: the member hears, draws, leaves, shows a page, ticks and gives, as far as there is cause. The clock is read once, for the whole turn.
+    ///
+    /// 1. It hears up to 64 datagrams, until none is there or a receive fails.
+    /// 2. It draws at most 64 strokes less the datagrams heard, and never has to stop before 8, as long as the rate lets each go at once. A stroke that the rate keeps
+    ///    back is in hand for the next turn.
+    /// 3. It leaves if it was asked to by now, no stroke is left, and the queue was empty after a look that found all producers done.
+    /// 4. It carries out the next command of its control, if there is one, and answers it.
+    /// 5. It ticks, and sends what the tick sends to every other member, in rising order.
+    /// 6. It gives each page slot messages while there is credit.
+    ///
+    /// Returns `Wire` if a call of the wire failed. The turn was done to its end all the same: each datagram was tried to each other member, and what couldn't be sent is
+    /// lost. Returns `Memory` if memory ran out, also if a call of the wire failed before. The turn ends in one step then, and the steps before are done: a stroke or a
+    /// command stays in hand for the next turn, and a datagram that was being heard is lost. `Turns` is never returned.
     pub fn turn<R: Wait>(&mut self, rt: &R) -> Result<(), NodeFault>
         ensures keeps { NodeKeepsLists self.new.view }
         ensures turns { TurnEnds (calls_of C.reads X.receives X.sends X.pauses) result self.old.view self.new.view }
@@ -233,11 +259,14 @@ impl<W: Words + Drop, X: Wire + Drop, C: Clock + Drop, P: Past<Entry> + Drop> No
         ensures words { WaitsByWords W.next_word (recorded_in self.old) (recorded_in self.new) }
     {
         let now = self.read_clock();
-        let unheard = self.listen_now(now)?;
-        // Before the well is drained: a pen that ends in between has sent all that it sends.
+        let listening = self.listen_now(now)?;
+        // Before the queue is drained: a producer that is done in between has sent all that it sends.
         self.look_at_pens();
-        let none_left = self.draw_now(rt, now)?;
+        let unheard = listening.failed;
+        let most = strokes_after(listening.count);
+        let none_left = self.draw_now(rt, most, now)?;
         self.leave_now(none_left, now)?;
+        self.show_now(rt, now)?;
         let unsent = self.tick_now(now)?;
         self.give_now(rt)?;
         if unheard | unsent {
@@ -246,14 +275,14 @@ impl<W: Words + Drop, X: Wire + Drop, C: Clock + Drop, P: Past<Entry> + Drop> No
         Ok(())
     }
 
-    /// What the member did so far, as it is kept. It takes no memory.
+    /// Returns the history of what the member did so far, as it is kept. Takes no memory.
     pub fn past(&self) -> &P
         ensures { P.appended result.now ≡ self.now.view.journal.entries }
     {
         self.recorder.past()
     }
 
-    /// Gives the node up for its journal and its feeds. It takes no memory.
+    /// Ends the node, and returns its journal and its feeds. Takes no memory.
     pub fn finish(self) -> (Journal<P>, Vec<Feed>)
         ensures journal { result.0 ≡ self.view.journal }
         ensures feeds { result.1.items ≡ self.view.feeds }
@@ -262,20 +291,26 @@ impl<W: Words + Drop, X: Wire + Drop, C: Clock + Drop, P: Past<Entry> + Drop> No
         (self.recorder.finish(), self.feeds)
     }
 
-    /// The same, and for its well, beside which a pen that is done can be put ([`Well::join_pen`]).
-    pub fn into_parts(self) -> (Journal<P>, Vec<Feed>, Well)
+    /// Ends the node, and returns its journal, its feeds, its stroke queue and its end of a control, if it has one. A producer that is done can be put beside the queue
+    /// ([`Well::join_pen`]), and a control beside its end ([`settle_control`](srm_control::settle_control)). Takes no memory.
+    pub fn into_parts(self) -> (Journal<P>, Vec<Feed>, Well, Option<PageCommands>)
         ensures journal { result.0 ≡ self.view.journal }
         ensures feeds { result.1.items ≡ self.view.feeds }
         ensures well { result.2 ≡ self.view.well }
+        ensures control { result.3 ≡ self.view.control }
         ensures keeps { NodeKeepsLists self.view }
     {
-        (self.recorder.finish(), self.feeds, self.well)
+        let journal = self.recorder.finish();
+        (journal, self.feeds, self.well, self.commands)
     }
 
-    /// Turns, with a pause before each but a node's first, until the member is gone and each lane had its close or is disconnected. A pause lasts until something is due
-    /// or the rate lets the stroke in hand go, at most 10,000 microseconds; after a turn that neither heard nor drew anything it takes at
-    /// least 1,000, and after one that heard or drew 64 there is none. The clock is read once for a pause and once for a turn. It stops at the first fault, and may be called again. Fault 3:
-    /// the turns are spent.
+    /// Turns up to `turns` times, with a pause before each turn but a node's first, until the member is gone and each feed has put its close or is disconnected. Reads
+    /// the clock once for a pause and once for a turn.
+    ///
+    /// A pause lasts until something is due or the rate lets the stroke in hand go, at most 10,000 microseconds. After a turn that heard and drew nothing, and found no
+    /// command, it lasts at least 1,000. After a turn that heard 64 datagrams, drew all that it might or found a command there is none. The wire may end a pause sooner.
+    ///
+    /// Returns the first fault of a turn, or `Turns` if the turns are spent. It may be called again then, and goes on.
     pub fn run<R: Wait>(&mut self, rt: &R, turns: u64) -> Result<(), NodeFault>
         ensures keeps { NodeKeepsLists self.new.view }
         ensures runs { RunEnds (calls_of C.reads X.receives X.sends X.pauses) result turns self.old.view self.new.view }
@@ -296,7 +331,7 @@ impl<W: Words + Drop, X: Wire + Drop, C: Clock + Drop, P: Past<Entry> + Drop> No
         }
     }
 
-    // Whether the member is gone and each lane had its close or is disconnected.
+    // Whether the member is gone and each feed has put its close or is disconnected.
     fn is_ended(&self) -> bool
         ensures { result ≡ has_ended self.now.view }
     {
@@ -307,7 +342,7 @@ impl<W: Words + Drop, X: Wire + Drop, C: Clock + Drop, P: Past<Entry> + Drop> No
         )
     }
 
-    // Waits until something is due or the stroke in hand may go, but not long.
+    // Pauses until something is due or the stroke in hand may go, but not long.
     fn pause(&mut self)
         ensures keeps { NodeKeepsLists self.new.view }
         ensures paused { Paused (calls_of C.reads X.receives X.sends X.pauses) self.old.view self.new.view }
@@ -315,7 +350,7 @@ impl<W: Words + Drop, X: Wire + Drop, C: Clock + Drop, P: Past<Entry> + Drop> No
     {
         let now = self.clock.now().min(LATEST_MOMENT);
         let due = lesser(self.recorder.next_due(), self.hand_due());
-        let micros = time_to_pause(self.heard, self.drawn, due, now);
+        let micros = time_to_pause(self.last, due, now);
         self.wire.pause(micros);
     }
 
@@ -337,11 +372,11 @@ impl<W: Words + Drop, X: Wire + Drop, C: Clock + Drop, P: Past<Entry> + Drop> No
         self.clock.now().min(LATEST_MOMENT)
     }
 
-    // Hears what came. Whether a call failed.
-    fn listen_now(&mut self, now: u64) -> Result<bool, OutOfMemory>
+    // Hears what came.
+    fn listen_now(&mut self, now: u64) -> Result<Listening, OutOfMemory>
         requires { now ≤ LATEST_MOMENT }
         ensures keeps { NodeKeepsLists self.new.view }
-        ensures hears { MatchResult result (λ unheard. HearsNow X.receives now unheard self.old.view self.new.view) (λ _. HearsCut X.receives now self.old.view self.new.view) }
+        ensures hears { MatchResult result (λ heard. HearsNow X.receives now heard.count heard.failed self.old.view self.new.view) (λ _. HearsCut X.receives now self.old.view self.new.view) }
         ensures words { WaitsByWords W.next_word (recorded_in self.old) (recorded_in self.new) }
     {
         let listened = listen(
@@ -351,11 +386,11 @@ impl<W: Words + Drop, X: Wire + Drop, C: Clock + Drop, P: Past<Entry> + Drop> No
             now,
         );
         let listening = listened?;
-        self.heard = listening.count;
-        Ok(listening.failed)
+        self.last.heard = listening.count;
+        Ok(listening)
     }
 
-    // Notes whether the pens say that they are done.
+    // Looks whether all producers are done.
     fn look_at_pens(&mut self)
         ensures keeps { NodeKeepsLists self.new.view }
         ensures looks { LooksNow self.old.view self.new.view }
@@ -364,22 +399,24 @@ impl<W: Words + Drop, X: Wire + Drop, C: Clock + Drop, P: Past<Entry> + Drop> No
         let _ = self.well.is_done();
     }
 
-    // Draws strokes, as far as the rate lets them go. Whether none is left.
-    fn draw_now<R: Wait>(&mut self, rt: &R, now: u64) -> Result<bool, OutOfMemory>
-        requires { now ≤ LATEST_MOMENT }
+    // Draws up to so many strokes, as far as the rate lets them go. Whether none is left.
+    fn draw_now<R: Wait>(&mut self, rt: &R, most: u8, now: u64) -> Result<bool, OutOfMemory>
+        requires some { 0 < most }
+        requires moment { now ≤ LATEST_MOMENT }
         ensures keeps { NodeKeepsLists self.new.view }
-        ensures draws { MatchResult result (λ none_left. DrawsNow now none_left self.old.view self.new.view) (λ _. DrawsCut now self.old.view self.new.view) }
+        ensures draws { MatchResult result (λ none_left. DrawsNow now most none_left self.old.view self.new.view) (λ _. DrawsCut now most self.old.view self.new.view) }
         ensures words { WaitsByWords W.next_word (recorded_in self.old) (recorded_in self.new) }
     {
         let hand = self.hand.take();
-        let (kept, drew) = draw_strokes(rt, &mut self.recorder, &mut self.well, hand, now);
+        let (kept, drew) = draw_strokes(rt, &mut self.recorder, &mut self.well, hand, most, now);
         self.hand = kept;
         let drawn = drew?;
-        self.drawn = drawn.count;
+        self.last.drawn = drawn.count;
+        self.last.most = most;
         Ok(drawn.none_left)
     }
 
-    // Leaves if the node was asked to by now, nothing more comes of its pens, and no stroke is left.
+    // Leaves if the node was asked to by now, no stroke is left, and its producers send no more.
     fn leave_now(&mut self, none_left: bool, now: u64) -> Result<(), OutOfMemory>
         requires { now ≤ LATEST_MOMENT }
         ensures keeps { NodeKeepsLists self.new.view }
@@ -391,6 +428,21 @@ impl<W: Words + Drop, X: Wire + Drop, C: Clock + Drop, P: Past<Entry> + Drop> No
         let left = leave(&mut self.recorder, leaves, now);
         self.asked = still_asked(leaves & left.is_ok(), self.asked);
         left
+    }
+
+    // Carries out the next command of the control, if there is one.
+    fn show_now<R: Wait>(&mut self, rt: &R, now: u64) -> Result<(), OutOfMemory>
+        requires { now ≤ LATEST_MOMENT }
+        ensures keeps { NodeKeepsLists self.new.view }
+        ensures shows { MatchResult result (λ _. ShowsNow now self.old.view self.new.view) (λ _. ShowsCut self.old.view self.new.view) }
+        ensures words { WaitsByWords W.next_word (recorded_in self.old) (recorded_in self.new) }
+    {
+        let asked = self.commands.take();
+        let (kept, obeyed) = show_asked(rt, &mut self.recorder, asked, now);
+        self.commands = kept;
+        let found = obeyed?;
+        self.last.obeyed = found;
+        Ok(())
     }
 
     // Ticks once, and sends. Whether a call failed.
@@ -409,7 +461,7 @@ impl<W: Words + Drop, X: Wire + Drop, C: Clock + Drop, P: Past<Entry> + Drop> No
         ))
     }
 
-    // Gives all slots messages.
+    // Gives the page slots their messages.
     fn give_now<R: Wait>(&mut self, rt: &R) -> Result<(), OutOfMemory>
         ensures keeps { NodeKeepsLists self.new.view }
         ensures gives { MatchResult result (λ _. GivesNow PAGES self.old.view self.new.view) (λ _. GivesCut self.old.view self.new.view) }

@@ -1,25 +1,55 @@
 //! How long a node pauses between two turns.
 
-use crate::limits::{DATAGRAMS_A_TURN, STROKES_A_TURN};
+use crate::limits::DATAGRAMS_A_TURN;
 
 // The longest pause, in microseconds.
 const LONGEST: u64 = 10_000;
 
-// The shortest one after a turn that neither heard nor drew anything, in microseconds: what others send can make something due at once
-// again and again, and would else keep a node at full speed.
+// The shortest one after a turn that did nothing, in microseconds: what others send can make something due at once again and again, and would else keep a node at full
+// speed.
 const SHORTEST: u64 = 1_000;
 
-/// How long to pause at a moment after a turn that heard and drew so many, in microseconds: until something is due, at most 10,000. Not at
-/// all after a full turn, since more may be there; and at least 1,000 after one that neither heard nor drew anything.
-pub fn time_to_pause(heard: u8, drawn: u8, due: Option<u64>, now: u64) -> u64 {
-    if heard == DATAGRAMS_A_TURN || drawn == STROKES_A_TURN {
+/// What a turn did: how many datagrams it heard, how many strokes it drew and might draw at most, and whether it found a command of the control.
+#[derive(Clone, Copy)]
+pub struct Turn {
+    pub heard: u8,
+    pub drawn: u8,
+    pub most: u8,
+    pub obeyed: bool,
+}
+
+impl Turn {
+    /// Makes a turn that heard and drew as much as it may.
+    pub fn full() -> Turn {
+        Turn {
+            heard: DATAGRAMS_A_TURN,
+            drawn: 0,
+            most: 0,
+            obeyed: false,
+        }
+    }
+
+    // Whether there may be more to hear, to draw or to carry out.
+    fn is_full(self) -> bool {
+        self.heard == DATAGRAMS_A_TURN || self.drawn == self.most || self.obeyed
+    }
+
+    fn is_idle(self) -> bool {
+        self.heard == 0 && self.drawn == 0 && !self.obeyed
+    }
+}
+
+/// Returns how long to pause at the moment `now` after a turn, in microseconds: until something is due, at most 10,000. After a turn that heard or drew all that it
+/// might, or found a command, it is 0, since more may be there. After a turn that did nothing it is at least 1,000.
+pub fn time_to_pause(last: Turn, due: Option<u64>, now: u64) -> u64 {
+    if last.is_full() {
         return 0;
     }
     let until_due = match due {
         Some(due) => due.saturating_sub(now).min(LONGEST),
         None => LONGEST,
     };
-    if heard == 0 && drawn == 0 {
+    if last.is_idle() {
         until_due.max(SHORTEST)
     } else {
         until_due

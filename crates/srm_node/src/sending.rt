@@ -9,7 +9,7 @@ use srm_agent::Out;
 use srm_names::Member;
 use srm_wire::{Wire, send_to_others};
 
-/// Sends each of these to every other member, rising, whatever fails. Whether a send failed.
+/// Sends each of these datagrams to every other member, in rising order, whatever fails. Returns whether a send failed. Takes no memory.
 pub fn send_all<X: Wire>(wire: &mut X, me: Member, members: u8, outs: &[Out]) -> bool
     requires { members ≤ MEMBERS }
     ensures sends { Sends result (dispatched me members (map (λ (o : SentOut). o.bytes) outs.now)) (X.failure_count wire.old) (X.failure_count wire.new) (X.told wire.old) (X.told wire.new) }

@@ -15,7 +15,7 @@ pub struct Spare {
     pub closed: Vec<bool>,
 }
 
-/// By itself, so that one exit alone drops what a node is made of. Only want of memory refuses it.
+/// Makes a node's buffer and flags, in one call, so that one exit alone drops what a node is made of. Fails only if out of memory.
 pub fn make_spare(alloc: Global) -> Result<Spare, AllocError>
     ensures buffer { IfOk result (λ s. vec_len s.buffer ≡ BUFFER_BYTES) }
     ensures closed { IfOk result (λ s. s.closed.items ≡ replicate PAGES false) }

@@ -1,4 +1,4 @@
-//! One tick.
+//! Ticking and leaving.
 
 ghost use Rattle.std.specs.Prelude.{◌≡◌, ◌≤◌, MatchResult};
 ghost use Rattle.srm_names.specs.declared.limits.TheConstants.{LATEST_MOMENT};
@@ -11,7 +11,7 @@ use srm_agent::{Entry, Ticked};
 use srm_timers::Words;
 use srm_world::{Past, Recorder};
 
-/// Ticks once.
+/// Ticks once, and returns what the tick sends. Fails only if out of memory, and then nothing has changed.
 pub fn tick<W: Words + Drop, P: Past<Entry> + Drop>(
     recorder: &mut Recorder<W, P>,
     now: u64,
@@ -27,7 +27,7 @@ pub fn tick<W: Words + Drop, P: Past<Entry> + Drop>(
     }
 }
 
-/// Leaves, or does nothing. A refusal for another cause than memory has its entry.
+/// Leaves if `leaves` says so, or does nothing. Each refusal but for memory has its entry. Fails only if out of memory, and then nothing has changed.
 pub fn leave<W: Words + Drop, P: Past<Entry> + Drop>(
     recorder: &mut Recorder<W, P>,
     leaves: bool,

@@ -34,6 +34,8 @@ mod plays;
 #[cfg(test)]
 mod rating;
 #[cfg(test)]
+mod restraint;
+#[cfg(test)]
 mod rig;
 #[cfg(test)]
 mod running;
@@ -41,6 +43,8 @@ mod running;
 mod seen;
 #[cfg(test)]
 mod settings;
+#[cfg(test)]
+mod showing;
 #[cfg(test)]
 mod steps;
 #[cfg(test)]

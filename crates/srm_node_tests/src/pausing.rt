@@ -4,6 +4,7 @@ use crate::noting::{Notes, Noting, make_noting, new_notes};
 use crate::rig::{Rig, config, make_rig};
 use crate::steps::{Step, play};
 use srm_agent::Config;
+use srm_control::PageCommand;
 use srm_node::NodeFault;
 use srm_rig_members::config_at;
 use std::alloc::Global;
@@ -106,6 +107,27 @@ fn a_node_does_not_pause_after_64_strokes(rt: HostRuntime) {
         &[Step::InkMany(64)],
         &pauses,
     );
+}
+
+// 10 datagrams leave room for 54 strokes, which are a full turn then; the ten that are left aren't.
+#[test]
+fn a_node_does_not_pause_after_it_drew_all_that_it_might(rt: HostRuntime) {
+    let pauses = [Pause(5, 10, 0), Pause(5, 0, 0), Pause(5, 0, 10_000)];
+    play_pauses(
+        &rt,
+        rt.alloc(),
+        settings(&rt, 100_000_000, 1_000_000),
+        &[Step::InkMany(64)],
+        &pauses,
+    );
+}
+
+// More may have been commanded behind one that was carried out.
+#[test]
+fn a_node_does_not_pause_after_it_showed_a_page(rt: HostRuntime) {
+    let steps = [Step::Control, Step::Commands(PageCommand::Begin, Ok(()))];
+    let pauses = [Pause(5, 0, 0), Pause(5, 0, 0), Pause(5, 0, 10_000)];
+    play_pauses(&rt, rt.alloc(), config(&rt, 0, 2), &steps, &pauses);
 }
 
 // Nothing is due any more of a member that is gone, but its lane is full and has no close yet.

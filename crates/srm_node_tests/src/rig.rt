@@ -1,6 +1,7 @@
 //! A node with what is outside it: its clock, its taps, its pens, and wires of members without a node.
 
 use srm_agent::{Config, Entry};
+use srm_control::PageControl;
 use srm_node::{Clock, Fate, Flaky, MemWire, Node, Wire, hub};
 use srm_pages::{Pen, Tap};
 use srm_rig_nodes::Station;
@@ -35,6 +36,8 @@ pub(crate) struct Rig<X: Wire + Drop, P: Past<Entry> + Drop = Vec<Entry>> {
     pub now: Arc<AtomicU64, Global>,
     pub taps: Vec<Tap>,
     pub pens: Vec<Pen>,
+    /// The handle of another thread, if the node was asked for one.
+    pub control: Option<PageControl>,
     /// Wires of other members, which have no node.
     pub beside: Vec<X>,
 }
@@ -101,6 +104,7 @@ fn with_clock<X: Wire + Drop, P: Past<Entry> + Drop>(
         now,
         taps,
         pens,
+        control: None,
         beside: Vec::new(alloc),
     }
 }

@@ -5,6 +5,7 @@ use crate::rig::Rig;
 use crate::seen::assert_taken;
 use crate::strokes::{ink_by, ink_many, ink_until_full};
 use srm_agent::Entry;
+use srm_control::{ControlFault, PageAnswer, PageCommand};
 use srm_node::{Counts, NodeFault, Wire};
 use srm_rig::Seen;
 use srm_rig_nodes::end_all;
@@ -37,6 +38,14 @@ pub(crate) enum Step {
     Send(Sent, u8),
     /// It is asked to leave at a moment.
     Leave(u64),
+    /// It is asked for a control, which takes the place of one that there was.
+    Control,
+    /// The control commands this, which ends so.
+    Commands(PageCommand, Result<(), ControlFault>),
+    /// The control's next answer, or none yet.
+    Answers(Option<PageAnswer>),
+    /// The control is dropped.
+    DropControl,
     /// It turns once, which ends so.
     Turn(Result<(), NodeFault>),
     /// It runs for so many turns, which ends so.
@@ -93,6 +102,38 @@ fn flow<R: Wait + Abort, X: Wire + Drop, P: Past<Entry> + Drop>(
     }
 }
 
+fn make_control<X: Wire + Drop, P: Past<Entry> + Drop>(
+    rt: &impl Abort,
+    alloc: Global,
+    rig: &mut Rig<X, P>,
+) {
+    let control = rig.node.control(alloc).expect(rt, "memory");
+    rig.control = Some(control);
+}
+
+fn command<R: Wait + Abort, X: Wire + Drop, P: Past<Entry> + Drop>(
+    rt: &R,
+    rig: &mut Rig<X, P>,
+    command: PageCommand,
+    end: Result<(), ControlFault>,
+) {
+    match &mut rig.control {
+        Some(control) => assert_eq!(rt; control.command(rt, command), end),
+        None => panic!(rt; "no control"),
+    }
+}
+
+fn answer<R: Wait + Abort, X: Wire + Drop, P: Past<Entry> + Drop>(
+    rt: &R,
+    rig: &mut Rig<X, P>,
+    wanted: Option<PageAnswer>,
+) {
+    match &mut rig.control {
+        Some(control) => assert_eq!(rt; control.answer(rt), wanted),
+        None => panic!(rt; "no control"),
+    }
+}
+
 fn counts<X: Wire + Drop>(rt: &impl Abort, rig: &Rig<X>, wanted: Counts) {
     assert_eq!(rt; rig.node.counts(), wanted);
 }
@@ -131,6 +172,10 @@ fn take<R: Wait + Abort, X: Wire + Drop, P: Past<Entry> + Drop>(
         Step::Done => end_all(&mut rig.pens),
         Step::Send(sent, count) => send_by(rt, alloc, &mut rig.beside, sent, count),
         Step::Leave(at) => rig.node.ask_leave(at),
+        Step::Control => make_control(rt, alloc, rig),
+        Step::Commands(asked, end) => command(rt, rig, asked, end),
+        Step::Answers(wanted) => answer(rt, rig, wanted),
+        Step::DropControl => rig.control = None,
         Step::Turn(end) => turn(rt, rig, end),
         Step::Run(turns, end) => run(rt, rig, turns, end),
         Step::DropTap => drop_tap(rt, rig),

@@ -2,6 +2,8 @@
 
 use crate::rig::Rig;
 use srm_agent::{Config, Entry, Input, Verdict};
+use srm_codec::Datagram;
+use srm_names::Name;
 use srm_node::Wire;
 use srm_rig::{Seen, look_at};
 use srm_rig_members::{given_in, is_heard};
@@ -23,6 +25,12 @@ pub(crate) enum Tale {
     Used(u64, u64),
     /// So many strokes were drawn, the last by this moment, at least so many datagrams were heard, and at most so many entries asked or repaired.
     Flowed(usize, u64, usize, usize),
+    /// How many entries ask to leave.
+    Left(usize),
+    /// How many entries show a page, and the last of these pages, by its number; 0 where there is none.
+    Shown(usize, u16),
+    /// The page of the last session message, by its number, and the greatest number of its first row; 0 where it has none.
+    Told(u16, u32),
     /// The moment of the first entry that sent a datagram.
     Sent(u64),
     /// The moment of the first entry that asked for a drawop.
@@ -68,6 +76,37 @@ fn drawn(entries: &[Entry]) -> (usize, u64, u64) {
         }
     }
     all
+}
+
+/// How many entries show a page, and the number of the last.
+fn shown(entries: &[Entry]) -> (usize, u16) {
+    let mut all = (0_usize, 0);
+    for entry in entries {
+        if let Input::Showed(page) = &entry.input {
+            all = (all.0.saturating_add(1), page.number);
+        }
+    }
+    all
+}
+
+fn first_number(rows: &[Name]) -> u32 {
+    match rows.first() {
+        Some(name) => name.number(),
+        None => 0,
+    }
+}
+
+/// The page of the last session message, by its number, and the greatest number of its first row, 0 where it has none.
+fn told(entries: &[Entry]) -> Option<(u16, u32)> {
+    let mut last = None;
+    for entry in entries {
+        for out in entry.effects.outs.as_slice() {
+            if let Datagram::Session { shown, rows, .. } = out {
+                last = Some((shown.number, first_number(rows.as_slice())));
+            }
+        }
+    }
+    last
 }
 
 /// The bytes of so many datagrams of 28, and nine tenths of what may go at this rate in so many microseconds, both ten million times.
@@ -138,6 +177,12 @@ fn assert_tells(rt: &impl Abort, journal: &Journal, tale: Tale) {
             assert_eq!(rt; all_given(entries, slot), (count, seen));
         }
         Tale::Drawn(count, from, to) => assert_eq!(rt; drawn(entries), (count, from, to)),
+        Tale::Left(count) => {
+            let leaving = |entry: &&Entry| matches!(entry.input, Input::AskedLeave);
+            assert_eq!(rt; entries.iter().filter(leaving).count(), count);
+        }
+        Tale::Shown(count, last) => assert_eq!(rt; shown(entries), (count, last)),
+        Tale::Told(page, number) => assert_eq!(rt; told(entries), Some((page, number))),
         Tale::Used(least, rate) => assert_used(rt, entries, least, rate),
         Tale::Flowed(count, by, heard, recovering) => {
             assert_flowed(rt, entries, count, by, heard, recovering);
