@@ -1,4 +1,4 @@
--- What parsing says of decimal spellings.
+-- What parsing accepts of decimal numbers.
 use Rattle.std.proofs.Common.{◌≡◌, ℕ, zero, suc, ◌<◌, ◌^◌, ◌⊎◌, inl, inr, List, length, get_or, Ok, subst, sym, ◌∙◌, ap, refl, arith}
 use Rattle.std.specs.Prelude.{Result}
 use Rattle.std.specs.Fmt.{decimal}

@@ -1,4 +1,4 @@
--- Numbers as a script spells them.
+-- Numbers as scripts write them.
 use Rattle.std.specs.Prelude.{◌≡◌, ℕ, ◌≤◌, ◌<◌, ◌⊎◌, List, length, slice_index}
 use Rattle.std.specs.Fmt.{decimal}
 
@@ -6,6 +6,6 @@ use Rattle.std.specs.Fmt.{decimal}
 abbrev pub IsDecimalUpTo : ℕ → List ℕ → ℕ → Type 0
 IsDecimalUpTo greatest text number = (number ≤ greatest) × (text ≡ decimal number)
 
--- a plus stands first, or a zero with something after it
+-- the text begins with a plus, or with a zero that has something after it
 abbrev pub IsPadded : List ℕ → Type 0
 IsPadded text = (slice_index text 0 ≡ 43) ⊎ ((slice_index text 0 ≡ 48) × (1 < length text))

@@ -1,4 +1,4 @@
--- Numbers of a script, the statuses of its faults, and the lines of what is taken.
+-- Numbers of a script, the statuses of its faults, and the lines for takes, on examples.
 use Rattle.std.specs.Prelude.{◌≡◌, [], ◌∷◌, ◌++◌, map, codes, None, Some, refl}
 use Rattle.std.specs.Fmt.{digits}
 use Rattle.std.proofs.Common.{arith, inl, inr}

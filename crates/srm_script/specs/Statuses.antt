@@ -1,4 +1,4 @@
--- With which status the program ends.
+-- The status that the program ends with.
 use Rattle.std.specs.Prelude.{◌≡◌, ◌⊎◌, ℕ}
 use Rattle.srm_script.specs.declared.fault.ScriptFault.{ScriptFault}
 use Rattle.srm_script.specs.declared.fault.ScriptFault.TheVariants.{Memory}
@@ -8,6 +8,6 @@ abbrev pub status_of : ScriptFault → ℕ
 status_of Memory = RAN_OUT
 status_of _ = FAILED
 
--- the status is that of success, or by this of a fault
+-- the status is 0, or what this makes of a fault
 abbrev pub IsStatusBy : {F : Type 0} → (F → ℕ) → ℕ → Type 0
 IsStatusBy {F} by status = (status ≡ 0) ⊎ ((fault : F) × (status ≡ by fault))

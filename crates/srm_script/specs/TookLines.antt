@@ -5,11 +5,11 @@ use Rattle.srm_names.specs.declared.page.Page.{Page}
 use Rattle.srm_names.specs.declared.page_msg.PageMsg.{PageMsg}
 use Rattle.srm_names.specs.declared.page_msg.PageMsg.TheVariants.{Open, Draw, Left, Close}
 
--- a page is the number of its creator, a dot, and its own number
+-- a page is the number of its creator, a dot, and the number of the page
 abbrev pub page_text : Page → List ℕ
 page_text page = decimal page.creator ++ (codes "." ++ decimal page.number)
 
--- a byte of a body is shown as it is where it is printable ASCII, from 20 to 7E, and else as a question mark
+-- a byte of a body is shown as it is if it is printable ASCII, from 20 to 7E, and else as a question mark
 abbrev pub shown_byte : ℕ → ℕ
 shown_byte byte = if nat_le 0x20 byte && nat_le byte 0x7E then byte else 63
 

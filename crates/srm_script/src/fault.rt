@@ -1,4 +1,4 @@
-//! Why a script isn't run to its end.
+//! Why a script stops before its end.
 
 ghost use Rattle.std.specs.Prelude.{◌≡◌};
 ghost use Rattle.srm_script.specs.declared.fault.ScriptFault.TheVariants.{Memory};
@@ -11,7 +11,7 @@ use std::io::Write;
 use std::{fmt, io};
 use thiserror::Error;
 
-/// Why a script isn't run to its end. Its text is the line that standard error gets.
+/// Why a script stops before its end. Its text is the line that standard error gets.
 #[derive(Debug, Drop, PartialEq, Eq, Error)]
 pub enum ScriptFault {
     /// Standard input can't be read.
@@ -26,13 +26,14 @@ pub enum ScriptFault {
     /// Standard output can't be written.
     #[error("srm: output")]
     Output,
-    /// Memory ran out.
+    /// Out of memory.
     #[error("srm: memory")]
     Memory,
 }
 
 impl ScriptFault {
-    /// Prints the fault on standard error, and answers the status that the program ends with.
+    /// Prints the fault as a line to `err`, and returns the status that the program ends with: 1, and 4 if out of memory. A fault of
+    /// `err` itself is ignored.
     pub fn print<E: Write>(&self, err: &mut E) -> u8
         ensures { result ≡ status_of self.now }
     {
@@ -51,27 +52,27 @@ impl ScriptFault {
         }
     }
 
-    /// The fault of a read of standard input.
+    /// Returns the fault of an error in reading standard input: out of memory, or else that it can't be read.
     pub fn of_input(error: io::Error) -> ScriptFault {
         of_io(error, ScriptFault::StandardInput)
     }
 
-    /// The fault of a write to standard output.
+    /// Returns the fault of an error in writing standard output: out of memory, or else that it can't be written.
     pub fn of_output(error: io::Error) -> ScriptFault {
         of_io(error, ScriptFault::Output)
     }
 }
 
-/// Prints a fault as a line of its own, and answers the status that the program ends with because of it.
+/// Prints a fault as a line to `err`, and returns `status`, for a program that ends with it. A fault of `err` itself is ignored.
 pub fn print_fault<F: fmt::Display, E: Write>(fault: &F, err: &mut E, status: u8) -> u8
     ensures { result ≡ status }
 {
-    // Where this can't be written there is nobody left to tell.
+    // If this can't be written, there is nowhere left to report it.
     let _ = writeln!(err, "{fault}");
     status
 }
 
-// Want of memory, or else this fault.
+// Out of memory, or else this fault.
 fn of_io(error: io::Error, other: ScriptFault) -> ScriptFault {
     match error.kind() {
         io::ErrorKind::OutOfMemory => ScriptFault::Memory,

@@ -4,10 +4,13 @@ use crate::fault::ScriptFault;
 use std::alloc::Global;
 use std::io::Read;
 
-/// Bytes of an input, at most.
+/// The longest input, in bytes.
 const LONGEST_INPUT: usize = 1_000_000;
 
-/// Reads to the end. Refused is an input that can't be read, or that is longer than a script may be.
+/// Reads an input to its end.
+///
+/// Fails with [`ScriptFault::TooLong`] if it has more than 1,000,000 bytes, and then stops reading after one byte more; with
+/// [`ScriptFault::StandardInput`] if it can't be read; and with [`ScriptFault::Memory`].
 pub fn read_input<I: Read>(alloc: Global, reader: &mut I) -> Result<Vec<u8>, ScriptFault> {
     let mut bytes = Vec::new(alloc);
     match reader

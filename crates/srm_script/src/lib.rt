@@ -1,14 +1,14 @@
-//! Scripts: what they say, and what is printed of a world that plays them.
+//! Scripts: reads them, plays them in a world, and prints what happens.
 //!
 //! ```
 //! let status = run_script(alloc, &mut stdin, &mut stdout, &mut stderr);
 //! ```
 //!
-//! [`read_script`] reads a script into what a world asks of its callers, and [`run_event`] plays one event and prints it.
+//! [`read_script`] reads a script into the settings and events that a world takes, and [`run_event`] plays one event and prints it.
 //! `docs/SCRIPTS.md` has the language.
 //!
-//! **What is refused.** The first bad line, before any is played; a script of more than 1,000,000 bytes; a stream that fails;
-//! want of memory. [`ScriptFault`] has the text and the status of each.
+//! **Errors.** A bad line, before any event is played; a script of more than 1,000,000 bytes; input or output that fails; out of memory.
+//! [`ScriptFault`] has the text and the status of each.
 #![tactic(auto)]
 
 mod fault;

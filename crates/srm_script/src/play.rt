@@ -1,4 +1,4 @@
-//! Running a script over any streams.
+//! Running a script.
 
 ghost use Rattle.std.specs.Prelude.{All};
 ghost use Rattle.srm_world.specs.Events.{IsTimely};
@@ -13,11 +13,11 @@ use std::alloc::Global;
 use std::io;
 use std::io::{BufWriter, Read, Write};
 
-/// Reads a script to its end, runs it and prints what happens. A fault goes to `err`, alone where the script has a bad
-/// line, since no line runs before all are checked.
+/// Reads a script of plain lines from `reader`, runs it, and prints what happens to `out` and a fault to `err`. It checks all lines
+/// before it runs any, so a script with a bad line prints nothing but the fault.
 ///
-/// Answers the program's status: 0; 1 where the input can't be read, has more than 1,000,000 bytes or a bad line, or the output
-/// can't be written; 4 for want of memory.
+/// Returns the program's status: 0 if all went well; 1 if the input can't be read, has more than 1,000,000 bytes or a bad line, or the
+/// output can't be written; 4 if out of memory. What was printed before memory ran out is still written.
 pub fn run_script<I: Read, O: Write, E: Write>(
     alloc: Global,
     reader: &mut I,
@@ -27,7 +27,7 @@ pub fn run_script<I: Read, O: Write, E: Write>(
     run_script_in(alloc, Dialect::Plain, reader, out, err)
 }
 
-/// The same of a script that may have the lines of this dialect.
+/// Reads a script that may have the lines of this dialect, and does what [`run_script`] does.
 pub fn run_script_in<I: Read, O: Write, E: Write>(
     alloc: Global,
     dialect: Dialect,
@@ -57,7 +57,7 @@ fn run<I: Read, O: Write>(
     let mut world = World::new(alloc, configs, words)?;
     let mut out = BufWriter::new(alloc, out).map_err(ScriptFault::of_output)?;
     let ran = run_events(&mut world, events, &mut EntryPrinter::new(timers), &mut out);
-    // What was printed before want of memory is still written.
+    // What was printed before memory ran out is still written.
     let flushed = out.flush();
     ran?;
     flushed.map_err(ScriptFault::of_output)
@@ -77,7 +77,10 @@ fn run_events<O: Write>(
     Ok(())
 }
 
-/// Applies an event and prints what it did. Refused are [`ScriptFault::Memory`] and [`ScriptFault::Output`].
+/// Applies an event to a world, and prints what it did: the lines of its entry, or `skipped`. Its moment is at most 2^48 microseconds.
+///
+/// Fails with [`ScriptFault::Memory`] if the world or the output is out of memory, and with [`ScriptFault::Output`] if `out` can't be
+/// written.
 pub fn run_event<O: Write>(
     world: &mut World<Listed>,
     event: Event,
@@ -94,7 +97,7 @@ pub fn run_event<O: Write>(
     printed.map_err(ScriptFault::of_output)
 }
 
-/// Prints the newest entry of a world, if there is one. Refused is what the output refuses.
+/// Prints the newest entry of a world, if there is one. Fails only if the output does.
 pub fn print_newest<O: Write>(
     world: &World<Listed>,
     printer: &mut EntryPrinter,

@@ -1,4 +1,4 @@
-//! The lines that tell what happened.
+//! Printing what happened.
 
 ghost use Rattle.std.specs.List.{AllByRecursion};
 ghost use Rattle.srm_codec.specs.Spelling.{IsSpellable};
@@ -14,7 +14,7 @@ use srm_names::{Member, Name};
 use std::io;
 use std::io::Write;
 
-/// What is printed, and how far it got.
+/// Prints entries as lines, and counts the datagrams that they sent.
 #[derive(Drop)]
 pub struct EntryPrinter {
     /// Whether timers are printed.
@@ -24,12 +24,13 @@ pub struct EntryPrinter {
 }
 
 impl EntryPrinter {
-    /// A printer that printed nothing yet, with timers or without.
+    /// Makes a printer that has counted no datagram. `timers` says whether it prints timers.
     pub fn new(timers: bool) -> EntryPrinter {
         EntryPrinter { timers, sent: 0 }
     }
 
-    /// Prints the lines of an entry. Refused is what the output refuses.
+    /// Prints the lines of an entry. It numbers the datagrams that the entry sent in order, on from those printed before. They can be
+    /// encoded, as those of every run can. Fails only if the output does.
     pub fn print_entry<W: Write>(&mut self, out: &mut W, entry: &Entry) -> io::Result<()>
         requires { AllByRecursion IsSpellable entry.now.effects.outs }
     {
@@ -78,7 +79,7 @@ impl EntryPrinter {
         }
     }
 
-    /// What is asked for, repaired and sent, and whether the member is gone.
+    /// Prints what a tick requested, repaired and sent, and whether the member is gone.
     fn print_tick<W: Write>(&mut self, out: &mut W, by: Member, effects: &Effects) -> io::Result<()>
         requires { AllByRecursion IsSpellable effects.now.outs }
     {
@@ -93,7 +94,7 @@ impl EntryPrinter {
         Ok(())
     }
 
-    /// A line for each timer, where a script asks for them.
+    /// Prints a line for each timer, if timers are printed.
     fn print_arms<W: Write>(&self, out: &mut W, member: u8, arms: &[Arm]) -> io::Result<()> {
         if self.timers {
             for arm in arms {
@@ -103,7 +104,7 @@ impl EntryPrinter {
         Ok(())
     }
 
-    /// A line for each datagram that was sent, with its number in the order of sending.
+    /// Prints a line for each datagram that was sent, with its number in the order of sending.
     fn print_outs<W: Write>(&mut self, out: &mut W, member: u8, outs: &[Datagram]) -> io::Result<()>
         requires { AllByRecursion IsSpellable outs.now }
     {

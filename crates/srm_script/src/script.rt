@@ -1,4 +1,4 @@
-//! Scripts: the members of a world, and what happens in it.
+//! Reading scripts: the members of a world, and what happens in it.
 
 ghost use Rattle.std.specs.Prelude.{◌≡◌, length, All, IfOk};
 ghost use Rattle.srm_world.specs.Traces.{IsRoster, started};
@@ -21,7 +21,7 @@ use srm_timers::Listed;
 use srm_world::Event;
 use std::alloc::Global;
 
-/// The settings of all members, 1 to 32, and for each its words. The events happen in order.
+/// What a script says: the settings and the random numbers of each member, 1 to 32 of them, and the events in order.
 #[derive(Drop)]
 pub struct Script {
     pub configs: Vec<Config>,
@@ -31,7 +31,9 @@ pub struct Script {
     pub events: Vec<Event>,
 }
 
-/// Reads a whole script of plain lines, however long, and runs nothing of it. Refused is its first bad line, and want of memory.
+/// Reads a script of plain lines, of any length, and runs nothing.
+///
+/// Fails with [`ScriptFault::BadLine`] for its first bad line, and with [`ScriptFault::Memory`].
 pub fn read_script(alloc: Global, text: &[u8]) -> Result<Script, ScriptFault>
     ensures roster { IfOk result (λ script. IsRoster (started script.configs.items)) }
     ensures words { IfOk result (λ script. length script.words.items ≡ length script.configs.items) }
@@ -40,7 +42,7 @@ pub fn read_script(alloc: Global, text: &[u8]) -> Result<Script, ScriptFault>
     read_script_in(alloc, Dialect::Plain, text)
 }
 
-/// The same of a script that may have the lines of this dialect.
+/// Reads a script that may have the lines of this dialect, as [`read_script`] does.
 pub fn read_script_in(alloc: Global, dialect: Dialect, text: &[u8]) -> Result<Script, ScriptFault>
     ensures roster { IfOk result (λ script. IsRoster (started script.configs.items)) }
     ensures words { IfOk result (λ script. length script.words.items ≡ length script.configs.items) }

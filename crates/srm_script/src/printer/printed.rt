@@ -1,6 +1,7 @@
 //! How pages, names, timers, messages and bodies are printed.
 
 ghost use Rattle.std.specs.Prelude.{◌≡◌, ◌≤◌, Some, length, take, option_map};
+ghost use Rattle.std.specs.Bool.{OnTrue};
 ghost use Rattle.srm_script.specs.TookLines as spec;
 ghost use Rattle.srm_script.specs.TookLines.{page_text, body_text, message_text, answer_text, took_text, gone_text};
 
@@ -8,7 +9,7 @@ use srm_agent::Arm;
 use srm_names::{Member, Name, Page, PageMsg};
 use std::fmt;
 
-/// A page, as the number of its creator, a dot and its own number.
+/// Displays a page: the number of its creator, a dot and the number of the page.
 #[derive(Drop)]
 pub struct PrintedPage(pub Page);
 
@@ -22,7 +23,7 @@ impl fmt::Display for PrintedPage {
     }
 }
 
-/// A name, as the number of its source, its page and its own number.
+/// Displays a name: the number of its source, its page and the number of the drawop.
 #[derive(Drop)]
 pub struct PrintedName(pub Name);
 
@@ -35,7 +36,7 @@ impl fmt::Display for PrintedName {
     }
 }
 
-/// A timer that was set: what for, the name, the exponent and the wait in microseconds.
+/// Displays a timer that was set: its kind, the name, the exponent and the wait in microseconds.
 #[derive(Drop)]
 pub struct PrintedArm<'a>(pub &'a Arm);
 
@@ -48,7 +49,7 @@ impl fmt::Display for PrintedArm<'_> {
     }
 }
 
-/// What a slot's worker was given or took, if there was something.
+/// Displays the message that a page worker was given or took, or `none`.
 #[derive(Drop)]
 pub struct PrintedAnswer<'a>(pub Option<&'a PageMsg>);
 
@@ -63,7 +64,7 @@ impl fmt::Display for PrintedAnswer<'_> {
     }
 }
 
-/// That a slot's worker took a message, or nothing: the line without its end.
+/// Displays the line for a take, without its end: the member, the slot and the message that its worker took, or `none`.
 #[derive(Drop)]
 pub struct PrintedTake<'a> {
     pub member: Member,
@@ -81,7 +82,7 @@ impl fmt::Display for PrintedTake<'_> {
     }
 }
 
-/// That a member is gone: the line without its end.
+/// Displays the line for a member that is gone, without its end.
 #[derive(Drop)]
 pub struct PrintedGone(pub Member);
 
@@ -93,7 +94,7 @@ impl fmt::Display for PrintedGone {
     }
 }
 
-/// A message of a page feed, as printed lines have it. A byte of a body that isn't printable ASCII is shown as `?`.
+/// Displays a message of a page feed. A byte of a body that isn't printable ASCII is shown as `?`.
 #[derive(Drop)]
 struct PrintedMessage<'a>(&'a PageMsg);
 
@@ -114,17 +115,24 @@ impl fmt::Display for PrintedMessage<'_> {
     }
 }
 
-/// The bytes of a body. One that isn't printable ASCII is shown as `?`.
+/// Displays the bytes of a body. One that isn't printable ASCII is shown as `?`.
 #[derive(Drop)]
 struct PrintedBody<'a>(&'a [u8]);
 
-/// How many bytes of a body are shown at once, since a character by itself costs as much as many.
+/// How many bytes of a body are written at once, since one character costs as much as many.
 const SHOWN_AT_ONCE: usize = 128;
 
 impl fmt::Display for PrintedBody<'_> {
     ghost output = { λ body. Some (body_text body.0.now) };
 
     fn fmt<W: fmt::Write>(&self, f: &mut fmt::Formatter<W>) -> fmt::Result {
+        // Most bodies are shown as they are, in one piece.
+        if is_plain(self.0) {
+            let Ok(text) = str::from_utf8(self.0) else {
+                return Err(fmt::Error);
+            };
+            return f.write_str(text);
+        }
         for bytes in self.0.chunks(SHOWN_AT_ONCE) {
             let shown = shown(bytes);
             let Ok(text) = str::from_utf8(&shown[..bytes.len()]) else {
@@ -136,7 +144,25 @@ impl fmt::Display for PrintedBody<'_> {
     }
 }
 
-/// The bytes as they are shown, at the front.
+/// Whether all bytes are shown as they are. It looks at each, since a loop without an exit goes through many at once.
+fn is_plain(bytes: &[u8]) -> bool
+    ensures { OnTrue result (body_text bytes.now ≡ bytes.now) }
+{
+    let mut plain = true;
+    for byte in bytes {
+        plain &= is_shown(*byte);
+    }
+    plain
+}
+
+/// Whether a byte is shown as it is.
+fn is_shown(byte: u8) -> bool
+    ensures { OnTrue result (spec.shown_byte byte ≡ byte) }
+{
+    matches!(byte, b' '..=b'~')
+}
+
+/// The bytes as they are shown, at the front of the array.
 fn shown(bytes: &[u8]) -> [u8; SHOWN_AT_ONCE]
     requires { length bytes.now ≤ SHOWN_AT_ONCE }
     ensures { take (length bytes.now) result ≡ body_text bytes.now }

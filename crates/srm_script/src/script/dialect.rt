@@ -3,8 +3,8 @@
 /// Which lines a script may have.
 #[derive(Clone, Copy, Debug, PartialEq, Eq)]
 pub enum Dialect {
-    /// Those that every script may have.
+    /// The lines that every script may have.
     Plain,
-    /// And `distance L` behind `timers`: a distance to another member counts as at least `L` microseconds, 1 to 10,000,000.
+    /// Also `distance L`, after `timers`: a distance to another member counts as at least `L` microseconds, 1 to 10,000,000.
     Extended,
 }

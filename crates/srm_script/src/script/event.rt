@@ -10,7 +10,7 @@ use srm_names::LONGEST_BODY;
 use srm_world::Event;
 use std::alloc::Global;
 
-/// Reads an event of a kind, of which the rest of the line tells.
+/// Reads an event of a kind from the rest of its line.
 pub fn read_event(alloc: Global, kind: &str, reader: LineReader<'_>) -> Result<Event, LineFault>
     ensures { IfOk result IsTimely }
 {
@@ -38,7 +38,7 @@ pub fn read_event(alloc: Global, kind: &str, reader: LineReader<'_>) -> Result<E
     }
 }
 
-/// `M T C.P`, or `M T C.P TEXT`.
+/// Reads `M T C.P`, or `M T C.P TEXT`.
 fn read_draw(alloc: Global, mut reader: LineReader<'_>) -> Result<Event, LineFault>
     ensures { IfOk result IsTimely }
 {
@@ -58,7 +58,7 @@ fn read_draw(alloc: Global, mut reader: LineReader<'_>) -> Result<Event, LineFau
     })
 }
 
-/// `M T K`.
+/// Reads `M T K`.
 fn read_deliver(mut reader: LineReader<'_>) -> Result<Event, LineFault>
     ensures { IfOk result IsTimely }
 {
@@ -69,7 +69,7 @@ fn read_deliver(mut reader: LineReader<'_>) -> Result<Event, LineFault>
     Ok(Event::Deliver { member, now, index })
 }
 
-/// `M T`.
+/// Reads `M T`.
 fn read_moment(mut reader: LineReader<'_>) -> Result<(u8, u64), LineFault>
     ensures { IfOk result (λ r. r.1 ≤ LATEST_MOMENT) }
 {
@@ -79,7 +79,7 @@ fn read_moment(mut reader: LineReader<'_>) -> Result<(u8, u64), LineFault>
     Ok((member, now))
 }
 
-/// `M T C.P`.
+/// Reads `M T C.P`.
 fn read_show(mut reader: LineReader<'_>) -> Result<Event, LineFault>
     ensures { IfOk result IsTimely }
 {
@@ -90,7 +90,7 @@ fn read_show(mut reader: LineReader<'_>) -> Result<Event, LineFault>
     Ok(Event::Show { member, now, page })
 }
 
-/// `M J`.
+/// Reads `M J`.
 fn read_slot(mut reader: LineReader<'_>) -> Result<(u8, u8), LineFault> {
     let member = reader.member()?;
     let slot = reader.slot()?;

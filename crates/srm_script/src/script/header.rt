@@ -15,7 +15,7 @@ use srm_names::LONGEST_DISTANCE;
 use srm_timers::Listed;
 use std::alloc::{AllocError, Global};
 
-/// The kind of the last line. The first lines have an order.
+/// The kind of the last line that was read, since the first lines have an order.
 #[derive(Clone, Copy, Debug, PartialEq, Eq)]
 enum Kind {
     Members,
@@ -33,7 +33,7 @@ pub struct Header {
     rate: u32,
     depth: u32,
     least_distance: u64,
-    /// The words of the members from 0 on, as far as lines spoke of them.
+    /// The random numbers of the members from 0 on, up to the last that a line named.
     words: Vec<Listed>,
     timers: bool,
     last: Kind,
@@ -49,7 +49,7 @@ pub struct Header {
 }
 
 impl Header {
-    /// The header of a script that says how many members there are, and nothing more.
+    /// Makes the header of a script that only says how many members there are, with the default settings.
     pub fn new(alloc: Global, members: u8) -> Header
         requires some { 0 < members }
         requires few { members ≤ MEMBERS }
@@ -66,7 +66,7 @@ impl Header {
         }
     }
 
-    /// `R D`.
+    /// Reads `R D`. Bad if the line isn't the second one, or a number is out of its range.
     pub fn read_bucket(&mut self, mut reader: LineReader<'_>) -> Result<(), LineFault> {
         if !matches!(self.last, Kind::Members) {
             return Err(LineFault::Bad);
@@ -80,7 +80,8 @@ impl Header {
         Ok(())
     }
 
-    /// `M W ..`, where no line spoke of this member or one behind it.
+    /// Reads `M W ..`. Bad after timers, distance or an event, for a member that isn't there, or if an earlier line named this member or
+    /// a later one.
     pub fn read_words(
         &mut self,
         alloc: Global,
@@ -102,7 +103,7 @@ impl Header {
         Ok(())
     }
 
-    /// Nothing more.
+    /// Reads the end of the line `timers`. Bad after another such line, distance or an event.
     pub fn read_timers(&mut self, reader: LineReader<'_>) -> Result<(), LineFault> {
         if matches!(self.last, Kind::Timers | Kind::Distance | Kind::Event) {
             return Err(LineFault::Bad);
@@ -113,7 +114,7 @@ impl Header {
         Ok(())
     }
 
-    /// `L`.
+    /// Reads `L`. Bad after another such line or an event.
     pub fn read_distance(&mut self, mut reader: LineReader<'_>) -> Result<(), LineFault> {
         if matches!(self.last, Kind::Distance | Kind::Event) {
             return Err(LineFault::Bad);
@@ -125,7 +126,7 @@ impl Header {
         Ok(())
     }
 
-    /// The first event ends the first lines.
+    /// Ends the first lines, since an event was read.
     pub fn end(&mut self) {
         self.last = Kind::Event;
     }
@@ -135,7 +136,7 @@ impl Header {
         self.timers
     }
 
-    /// The settings of all members.
+    /// Returns the settings of all members. Fails only if out of memory.
     pub fn configs(&self, alloc: Global) -> Result<Vec<Config>, AllocError>
         ensures roster { IfOk result (λ configs. IsRoster (started configs.items)) }
         ensures count { IfOk result (λ configs. length configs.items ≡ self.now.members) }
@@ -149,7 +150,7 @@ impl Header {
         )
     }
 
-    /// The words of all members.
+    /// Returns the random numbers of all members, none for a member that no line named. Fails only if out of memory.
     pub fn words(self, alloc: Global) -> Result<Vec<Listed>, AllocError>
         ensures { IfOk result (λ words. length words.items ≡ self.members) }
     {
@@ -159,7 +160,7 @@ impl Header {
     }
 }
 
-/// Puts in empty lists of words up to so many.
+/// Appends empty lists of random numbers until there are so many lists.
 fn fill(alloc: Global, words: &mut Vec<Listed>, count: u8) -> Result<(), AllocError>
     requires { length words.old.items ≤ count }
     ensures ok { OnOk result (length words.new.items ≡ count) }
@@ -171,7 +172,7 @@ fn fill(alloc: Global, words: &mut Vec<Listed>, count: u8) -> Result<(), AllocEr
     Ok(())
 }
 
-/// One word or more, separated by one space.
+/// Reads one random number or more, separated by one space.
 fn read_list(alloc: Global, reader: LineReader<'_>) -> Result<Vec<u64>, LineFault> {
     let mut listed = Vec::new(alloc);
     for word in reader.rest().ok_or(LineFault::Bad)?.split(' ') {

@@ -12,7 +12,7 @@ use srm_names::MEMBERS;
 use srm_world::Event;
 use std::alloc::{AllocError, Global};
 
-/// Reads the first line, `members N`.
+/// Reads the first line, `members N`, with N from 1 to 32.
 pub fn read_members(line: &[u8]) -> Result<u8, LineFault>
     ensures some { IfOk result (λ members. 0 < members) }
     ensures few { IfOk result (λ members. members ≤ MEMBERS) }
@@ -26,7 +26,7 @@ pub fn read_members(line: &[u8]) -> Result<u8, LineFault>
     Ok(members as u8)
 }
 
-/// Reads one of the lines after the first: one more of the first lines, or an event.
+/// Reads a line after the first: a line of the header, or an event.
 pub fn read_line(
     alloc: Global,
     dialect: Dialect,

@@ -8,7 +8,7 @@ use crate::fault::ScriptFault;
 use srm_names::{LATEST_MOMENT, MEMBERS, Member, PAGE_NUMBERS, Page};
 use std::alloc::AllocError;
 
-/// Why a line isn't taken.
+/// Why a line can't be read.
 #[derive(Clone, Copy, Debug, PartialEq, Eq)]
 pub enum LineFault {
     Bad,
@@ -16,7 +16,7 @@ pub enum LineFault {
 }
 
 impl LineFault {
-    /// The fault of a script that has this line, by its number from 1.
+    /// Returns the fault of a script that has this line, by its number from 1.
     pub fn at(self, line: u64) -> ScriptFault {
         match self {
             LineFault::Bad => ScriptFault::BadLine(line),
@@ -31,14 +31,14 @@ impl From<AllocError> for LineFault {
     }
 }
 
-/// What of a line isn't read yet. After the last word nothing is left, which an empty word is not.
+/// The part of a line that isn't read yet: `None` after the last word, which differs from an empty word.
 #[derive(Drop)]
 pub struct LineReader<'a> {
     left: Option<&'a str>,
 }
 
 impl<'a> LineReader<'a> {
-    /// The whole of a line, which is printable ASCII.
+    /// Begins a line. Bad if it isn't printable ASCII.
     pub fn new(line: &'a [u8]) -> Result<LineReader<'a>, LineFault> {
         if !line.iter().all(|byte| (b' '..=b'~').contains(byte)) {
             return Err(LineFault::Bad);
@@ -49,7 +49,7 @@ impl<'a> LineReader<'a> {
         }
     }
 
-    /// The next word, up to the next space.
+    /// Reads the next word, up to the next space. Bad if there is none.
     pub fn next(&mut self) -> Result<&'a str, LineFault> {
         let left = self.left.ok_or(LineFault::Bad)?;
         match left.split_once(' ') {
@@ -64,12 +64,12 @@ impl<'a> LineReader<'a> {
         }
     }
 
-    /// All that is left, spaces too. None after the last word.
+    /// Returns all that is left, spaces too; `None` after the last word.
     pub fn rest(self) -> Option<&'a str> {
         self.left
     }
 
-    /// Refuses a line that goes on.
+    /// Checks that the line ends. Bad if it goes on.
     pub fn end(self) -> Result<(), LineFault> {
         match self.left {
             None => Ok(()),
@@ -77,7 +77,7 @@ impl<'a> LineReader<'a> {
         }
     }
 
-    /// A number in decimal.
+    /// Reads a number in decimal, without sign and leading zeros. Bad if the next word is none, or is above `greatest`.
     pub fn number(&mut self, greatest: u64) -> Result<u64, LineFault>
         ensures { IfOk result (λ number. number ≤ greatest) }
     {
@@ -85,7 +85,7 @@ impl<'a> LineReader<'a> {
         read_number(word, greatest).ok_or(LineFault::Bad)
     }
 
-    /// A number in decimal, within bounds.
+    /// Reads a number in decimal. Bad if the next word is none from `least` to `greatest`.
     pub fn number_from(&mut self, least: u32, greatest: u32) -> Result<u32, LineFault>
         ensures least { IfOk result (λ number. least ≤ number) }
         ensures greatest { IfOk result (λ number. number ≤ greatest) }
@@ -97,25 +97,26 @@ impl<'a> LineReader<'a> {
         Ok(number)
     }
 
-    /// The number of a member. It may lie outside the world.
+    /// Reads the number of a member, 0 to 31. The world may have fewer members.
     pub fn member(&mut self) -> Result<u8, LineFault> {
         let number = self.number(u64::from(MEMBERS) - 1)?;
         Ok(number as u8)
     }
 
-    /// A moment in microseconds.
+    /// Reads a moment in microseconds, at most 2^48.
     pub fn moment(&mut self) -> Result<u64, LineFault>
         ensures { IfOk result (λ now. now ≤ LATEST_MOMENT) }
     {
         self.number(LATEST_MOMENT)
     }
 
+    /// Reads the number of a slot, 0 to 255. The world has slots 0 to 7.
     pub fn slot(&mut self) -> Result<u8, LineFault> {
         let number = self.number(u64::from(u8::MAX))?;
         Ok(number as u8)
     }
 
-    /// A page, as the number of its creator, a dot and its own number.
+    /// Reads a page: the number of its creator, a dot and the number of the page.
     pub fn page(&mut self) -> Result<Page, LineFault> {
         let word = self.next()?;
         read_page(word).ok_or(LineFault::Bad)

@@ -3,7 +3,7 @@
 ghost use Rattle.std.specs.Prelude.{◌↔◌, IfSome, IfNone, IsTrue, ℕ};
 ghost use Rattle.srm_script.specs.Decimals.{IsDecimalUpTo, IsPadded};
 
-/// The number with this decimal spelling, which has no sign and no leading zeros, where it is at most `greatest`.
+/// Reads a number in decimal, without sign and leading zeros. Returns `None` if the text is none, or the number is above `greatest`.
 pub fn read_number(text: &str, greatest: u64) -> Option<u64>
     ensures some { IfSome result (IsDecimalUpTo greatest text.now) }
     ensures none { IfNone result ((number : ℕ) → ¬ (IsDecimalUpTo greatest text.now number)) }
@@ -17,7 +17,7 @@ pub fn read_number(text: &str, greatest: u64) -> Option<u64>
     }
 }
 
-/// Whether a plus or a needless zero stands first, which `parse` takes.
+/// Whether the text begins with a plus or a needless zero, which `parse` accepts.
 fn is_padded(text: &[u8]) -> bool
     ensures { IsTrue result ↔ IsPadded text.now }
 {

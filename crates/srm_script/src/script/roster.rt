@@ -13,7 +13,8 @@ use std::alloc::{AllocError, Global};
 /// The number of the session of each script.
 const SCRIPT_SESSION: u32 = 1;
 
-/// The settings of members of one roster, in order, in one session, with one rate, depth and floor under distances.
+/// Returns the settings of the members of one roster, in order, in one session, with the same rate in bytes a second, depth in bytes and
+/// floor under distances in microseconds. Fails only if out of memory.
 pub fn roster(
     alloc: Global,
     members: u8,

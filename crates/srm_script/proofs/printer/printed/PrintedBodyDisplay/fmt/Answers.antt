@@ -11,7 +11,7 @@ loop-bytes-preserved g c =
       search rules,
       λ plain.
           let so_far = c.loop-bytes.invariant.3 plain in (
-            so_far.0 ++ c.in-Ok.text.now,
+            so_far.0 ++ c.in-Ok-from_utf8.text.now,
             has_written_append _ _ _ _ _ _ so_far.1 (search rules),
             shown_on so_far.0 _ c.in-Some.bytes.now _ _ _ so_far.2 steps.1.0 (search (rules)),
           ),
