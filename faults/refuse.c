@@ -12,8 +12,9 @@
  *   clock                    clock_gettime fails
  *   thread                   pthread_create fails
  *
- * All other calls go through, and so do all without REFUSE. The file REFUSED, where it is named, is made once the N-th call was met; so a run
- * that leaves none had fewer. `nm -D` of a program lists the calls that it makes.
+ * All other calls go through, and so do all without REFUSE, and where N is 0. The file REFUSED, where it is named, is made once the N-th call was
+ * met; so a run that leaves none had fewer. The file COUNTED, where it is named, has in the end how many calls of this kind there were. `nm -D` of a
+ * program lists the calls that it makes.
  */
 #define _GNU_SOURCE
 #include <dlfcn.h>
@@ -69,6 +70,20 @@ static void tell(void) {
     long made = file ? syscall(SYS_openat, AT_FDCWD, file, O_WRONLY | O_CREAT, 0600) : -1;
     if (made >= 0)
         syscall(SYS_close, made);
+}
+
+/* What comes after this isn't counted: what the C library does as it ends is none of the program's either. */
+__attribute__((destructor)) static void end(void) {
+    const char *file = getenv("COUNTED");
+    long made = file ? syscall(SYS_openat, AT_FDCWD, file, O_WRONLY | O_CREAT | O_TRUNC, 0600) : -1;
+    char digits[24];
+    size_t at = sizeof digits;
+    for (long count = atomic_load(&seen); at == sizeof digits || count; count /= 10)
+        digits[--at] = '0' + count % 10;
+    if (made < 0)
+        return;
+    syscall(SYS_write, made, digits + at, sizeof digits - at);
+    syscall(SYS_close, made);
 }
 
 /* Counts a call of this kind. Whether it is refused. */

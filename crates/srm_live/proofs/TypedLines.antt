@@ -5,6 +5,7 @@ use Rattle.std.specs.Io.KnownBytes.{Consumes, Keeps, IsAtEnd}
 use Rattle.std.proofs.lemmas.Bool.{ltb-true, lt-ltb}
 use Rattle.std.proofs.lemmas.List.{append-nil, append_assoc, map-append, length-append, take_more, take-append-drop, take_all}
 use Rattle.srm_names.specs.declared.limits.TheConstants.{LONGEST_BODY}
+use Rattle.srm_pages.specs.declared.stroke.Stroke.{Stroke}
 use Rattle.srm_pages.specs.Ends.{PenView}
 use Rattle.srm_live.specs.declared.typed.Typed.{Typed}
 use Rattle.srm_live.specs.declared.typed.Typed.TheVariants.{TooLong}
@@ -12,7 +13,7 @@ use Rattle.srm_live.specs.Commands.{said_of}
 use Rattle.srm_member.specs.Lines.{lines_of, before_first}
 use Rattle.srm_member.specs.Strokes.{stroke_of}
 use Rattle.srm_member.proofs.Splitting.{other}
-use Rattle.srm_live.specs.Typing.{short_lines, strokes_in, LineContent, with_byte, typed_of, bodies_in, PenSent, HasNoEnd, DrawsTyped, DrawsSome, DrawsLast, ReadsOf, PenSentAllOf, PenSentPrefixOf}
+use Rattle.srm_live.specs.Typing.{short_lines, strokes_in, LineContent, with_byte, typed_of, bodies_in, PenSent, SamePen, HasNoEnd, DrawsTyped, DrawsSome, DrawsLast, ReadsOf, PenSentAllOf, PenSentPrefixOf}
 
 -- THE LINES OF A FRONT AND WHAT IS BEHIND IT
 
@@ -165,6 +166,30 @@ reads_none (Some text) pen = record { rest = text; left_is = refl; drawn = []; s
 pub prefix_none : (known : Option (List ℕ)) (pen : PenView) → PenSentPrefixOf known pen pen
 prefix_none None pen = tt
 prefix_none (Some text) pen = (strokes_in text, record { sent = []; split = refl; is = sent_none pen })
+
+-- THE PEN
+
+pub same_none : (pen : PenView) → SamePen pen pen
+same_none pen = record { is = refl }
+
+pub same_still : (old mid new : PenView) → SamePen old mid → new ≡ mid → SamePen old new
+same_still old mid new h is = subst (SamePen old) (sym is) h
+
+same_sent : (bodies : List (List ℕ)) (old mid new : PenView) → SamePen old mid → PenSent bodies mid new → SamePen old new
+same_sent bodies old mid new h sent =
+    let more : List Stroke = mid.sent ++ map (stroke_of mid.number) bodies in
+    record { is = sent ∙ ap (λ (p : PenView). record p { sent = more }) h.is ∙ ap (λ s. record old { sent = s }) (sym (ap (λ (p : PenView). p.sent) sent)) }
+
+pub same_typed : (bytes typed_before : List ℕ) (old mid : PenView) (begun : List ℕ) (new : PenView) → SamePen old mid → DrawsTyped bytes typed_before mid begun new → SamePen old new
+same_typed bytes typed_before old mid begun new h draws = same_sent draws.drawn old mid new h draws.sent
+
+pub same_some : (bytes typed_before : List ℕ) (old mid new : PenView) → SamePen old mid → DrawsSome bytes typed_before mid new → SamePen old new
+same_some bytes typed_before old mid new h some = same_sent some.draws.drawn old mid new h some.draws.sent
+
+-- of the last line
+pub same_last : {T E : Type 0} (r : Result T E) (typed_before : List ℕ) (old mid new : PenView) → SamePen old mid → OnOk r (DrawsLast typed_before mid new) → OnErr r (new ≡ mid) → SamePen old new
+same_last (Ok _) typed_before old mid new h last cut = same_sent last.drawn old mid new h last.sent
+same_last (Err _) typed_before old mid new h last cut = same_still old mid new h cut
 
 rest_is : (left after : Option (List ℕ)) (bytes rest : List ℕ) → left ≡ Some rest → Consumes left after bytes → (ys : List ℕ) × (after ≡ Some ys) × (rest ≡ bytes ++ ys)
 rest_is None after bytes rest is took = absurd cc

@@ -2,7 +2,9 @@
 use Rattle.std.specs.Prelude.{◌≡◌, [], ◌∷◌, ◌++◌, length, map, replicate, refl, codes, Some, None}
 use Rattle.srm_live.specs.declared.command.Command.TheVariants.{Who, Leave, Help}
 use Rattle.srm_live.specs.declared.typed.Typed.TheVariants.{Stroke, TooLong, Order}
+use Rattle.bstr.specs.Utf8.{pieces_from}
 use Rattle.srm_live.specs.Commands.{said_of}
+use Rattle.srm_live.specs.Readable.{readable_text}
 use Rattle.srm_live.specs.Typing.{short_lines, strokes_in, with_byte, typed_of, line_after}
 
 what_is_drawn_of_a_text : strokes_in (97 ∷ 10 ∷ 10 ∷ 98 ∷ []) ≡ (97 ∷ []) ∷ [] ∷ (98 ∷ []) ∷ []
@@ -41,3 +43,7 @@ commands_are_whole_words = refl
 
 a_slash_elsewhere_is_drawn : said_of (codes "a/who") ≡ Stroke (codes "a/who")
 a_slash_elsewhere_is_drawn = refl
+
+an_escape_and_a_wild_byte_are_question_marks : readable_text (97 ∷ 0xC3 ∷ 0xA9 ∷ 27 ∷ 0xFF ∷ 98 ∷ []) ≡ 97 ∷ 0xC3 ∷ 0xA9 ∷ 63 ∷ 63 ∷ 98 ∷ []
+unfolding pieces_from lib.Utf8.encode
+an_escape_and_a_wild_byte_are_question_marks = refl

@@ -45,6 +45,10 @@ line_after l = record { number = one_more l.number; kept = [] }
 abbrev pub PenSent : List (List ℕ) → PenView → PenView → Type 0
 PenSent bodies old new = new ≡ record old { sent = old.sent ++ map (stroke_of old.number) bodies }
 
+-- the pen is the same, but for what it sent
+pub record SamePen (old new : PenView) : Type 0 where
+  pub is : new ≡ record old { sent = new.sent }
+
 -- no byte of these is a line end
 abbrev pub HasNoEnd : List ℕ → Type 0
 HasNoEnd [] = Unit {0}

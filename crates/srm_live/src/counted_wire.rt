@@ -1,84 +1,84 @@
-//! A wire that shows what it loses.
+//! A wire that says what it loses and drops.
 
-ghost use Rattle.std.specs.Prelude.{◌≡◌, ◌≤◌, [], None, length, is_err, IfOk, IfSome};
-ghost use Rattle.srm_wire.specs.Wires.{CountsIf, TellsMore, answered, sent_by};
-ghost use Rattle.srm_udp.specs.Udp.{CountsEach, CountsReceive};
+ghost use Rattle.std.specs.Prelude.{◌≡◌};
 
+use crate::dropped::Dropped;
 use crate::tally::Tally;
+use srm_guard::Guard;
 use srm_names::Member;
 use srm_udp::{Losses, UdpWire};
 use srm_wire::{Wire, WireFault};
 use std::alloc::Global;
 use std::sync::Arc;
 
-/// A wire of a member over UDP that shows what is lost, if a count is kept. All else is as of the wire below.
+/// A member's guarded wire over UDP that says in a tally how much it lost and dropped, if one is kept. Everything else is as with the wire below.
 #[derive(Drop)]
 pub struct CountedWire {
-    wire: UdpWire,
+    wire: Guard<UdpWire>,
     tally: Option<Arc<Tally, Global>>,
-    // What was shown last of what the wire lost.
+    // What the tally was told last.
     lost: Losses,
+    dropped: Dropped,
 }
 
 impl CountedWire {
-    /// A wire over this one that shows this count what is lost.
-    pub fn new(wire: UdpWire, tally: Option<Arc<Tally, Global>>) -> CountedWire
+    /// Returns a wire over this one that tells this tally.
+    pub fn new(wire: Guard<UdpWire>, tally: Option<Arc<Tally, Global>>) -> CountedWire
         ensures { result.wire ≡ wire }
     {
         CountedWire {
             wire,
             tally,
             lost: Losses::none(),
+            dropped: Dropped::none(),
         }
     }
 
-    // Shows what the wire lost so far, where that is more than was shown.
-    fn show_lost(&mut self)
+    // Tells the tally what changed.
+    fn tell(&mut self)
         ensures { self.new.wire ≡ self.old.wire }
     {
-        let lost = self.wire.losses();
-        if lost == self.lost {
+        let lost = self.wire.wire().losses();
+        let dropped = Dropped::of(self.wire.wire().dropped(), self.wire.dropped());
+        if lost == self.lost && dropped == self.dropped {
             return;
         }
         self.lost = lost;
+        self.dropped = dropped;
         if let Some(tally) = &self.tally {
             tally.show_lost(lost);
+            tally.show_dropped(dropped);
         }
     }
 }
 
 impl Wire for CountedWire {
-    ghost use Rattle.std.specs.Prelude.{None};
-    ghost use Rattle.srm_udp.specs.Udp.{CountsEach, CountsReceive};
+    ghost use Rattle.std.specs.Prelude.{◌≡◌, None};
+    ghost use Rattle.srm_guarded.specs.Guarding.{GuardedReceives, GuardedSends, guarded_failures};
 
-    ghost failure_count = { λ w. w.wire.failures };
+    ghost failure_count = { λ w. guarded_failures w.wire };
 
     ghost told = { λ w. None };
 
-    fn send(&mut self, to: Member, datagram: &[u8]) -> Result<(), WireFault>
-        ensures failures { CountsIf (is_err result) self.old.wire.failures self.new.wire.failures }
-        ensures each { CountsEach result self.old.wire self.new.wire }
-        ensures tells { TellsMore [] (sent_by to datagram.now result) None None }
-    {
+    ghost sends = { λ w sent failed h. GuardedSends w.wire sent failed h.wire };
+
+    ghost receives = { λ w room answer h. GuardedReceives w.wire room answer h.wire };
+
+    ghost pauses = { λ w micros h. h.wire ≡ w.wire };
+
+    fn send(&mut self, to: Member, datagram: &[u8]) -> Result<(), WireFault> {
         let sent = self.wire.send(to, datagram);
-        self.show_lost();
+        self.tell();
         sent
     }
 
-    fn receive(&mut self, buffer: &mut [u8]) -> Result<Option<usize>, WireFault>
-        ensures within { IfOk result (λ some. IfSome some (λ count. count ≤ length buffer.new)) }
-        ensures failures { CountsIf (is_err result) self.old.wire.failures self.new.wire.failures }
-        ensures each { CountsReceive result self.old.wire self.new.wire }
-        ensures tells { TellsMore (answered buffer.new result) [] None None }
-    {
+    fn receive(&mut self, buffer: &mut [u8]) -> Result<Option<usize>, WireFault> {
         let answer = self.wire.receive(buffer);
-        self.show_lost();
+        self.tell();
         answer
     }
 
-    fn pause(&mut self, micros: u64)
-        ensures { self.new.wire ≡ self.old.wire }
-    {
+    fn pause(&mut self, micros: u64) {
         self.wire.pause(micros);
     }
 

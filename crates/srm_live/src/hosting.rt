@@ -1,36 +1,41 @@
 //! The node of a live member, its page workers, and the thread that draws what is typed.
 
-ghost use Rattle.std.specs.Prelude.{◌≡◌, List, None, map, vec_len, slice_get, IfOk};
-ghost use Rattle.std.specs.List.{list_any};
+ghost use Rattle.std.specs.Prelude.{◌≡◌, List, None, Some, map, vec_len, IfOk, IfSome};
+ghost use Rattle.std.specs.List.{AllByRecursion, list_all, list_any};
 ghost use Rattle.srm_names.specs.declared.limits.TheConstants.{PAGES};
 ghost use Rattle.srm_names.specs.declared.page_msg.PageMsg.{PageMsg as AMessage};
 ghost use Rattle.srm_node.specs.Calls.{calls_of};
 ghost use Rattle.srm_node.specs.Hosting.{AreEndsOfLanes};
 ghost use Rattle.srm_udp.specs.Clocks.{NeverFalls};
 ghost use Rattle.srm_member.specs.Stations.{HasNewEnds};
-ghost use Rattle.srm_member.specs.Statuses.{fault_of, lacks_memory};
-ghost use Rattle.srm_member.specs.WholeRuns.{TakePrefixes, SawEach, IsWholeHost};
+ghost use Rattle.srm_member.specs.Statuses.{fault_of, fault_of_lists, lacks_memory};
+ghost use Rattle.srm_member.specs.TakenText.{has_close};
+ghost use Rattle.srm_member.specs.WholeRuns.{TakePrefixes, IsReceivedOf, SawEach};
+ghost use Rattle.srm_live.specs.declared.typing_thread.TypedPens.{TypedPens as ThePens};
+ghost use Rattle.srm_live.specs.LiveRuns.{IsWholeLiveRun};
 
 use crate::desk::Desk;
 use crate::lingering::Staying;
-use crate::typing::draw_typed;
+use crate::typing_thread::{TypedPens, join_typing, start_typing};
 use srm_agent::Entry;
-use srm_member::{MemberFault, Station, Waking, host_if, settle_lanes};
+use srm_member::{MemberFault, Station, host_if, join_pens, settle_lanes};
 use srm_names::PageMsg;
-use srm_node::{Hosted, PageSink};
-use srm_pages::{Inked, Pen};
+use srm_node::{Hosted, PageSink, Worked};
+use srm_pages::Feed;
+use srm_pages::ends::Well;
 use srm_script::ScriptFault;
 use srm_wire::Wire;
 use srm_world::Past;
 use std::alloc::Global;
-use std::collections::VecDeque;
 use std::io::{Read, Write};
 use std::sync::{Arc, Wait};
-use std::thread::{JoinHandle, Threads};
-use std::{thread, time};
+use std::thread::Threads;
+use std::time;
 
-/// Runs the node in this thread, and its page workers and the pen that draws what is typed in threads of their own, until all have ended. Why it
-/// wasn't run to its end, if it wasn't. If it was, what each worker took, and its sink saw, is a prefix of what the node's journal gave in its slot.
+/// Runs the node in this thread, and its page workers and the pen that draws what is typed in threads of their own, until all have ended.
+///
+/// `turns` is how many turns the node has. Returns why the run wasn't whole; `None` if it was. Then each worker took all that the node's journal gave in its slot, and its sink
+/// saw each of these messages; and the journal's draws are the strokes that are typed in the reader's bytes, in order, or a prefix of them.
 pub fn host_live<R, X, P, S, I, O, E>(
     rt: &R,
     alloc: Global,
@@ -51,7 +56,7 @@ where
     E: Write + Send + Drop + 'static,
     requires new { HasNewEnds station.node.view station.taps.items station.pens.items }
     requires sinks { vec_len sinks ≡ PAGES }
-    ensures { result ≡ None → ((took : List (List AMessage)) × IsWholeHost (calls_of NeverFalls X.receives X.sends X.pauses) turns station.node.view took × SawEach S.sees sinks.items took) }
+    ensures { result ≡ None → ((took : List (List AMessage)) × IsWholeLiveRun (calls_of NeverFalls X.receives X.sends X.pauses) turns (I.remaining reader) station.node.view took × SawEach S.sees sinks.items took) }
 {
     let Station {
         node,
@@ -62,18 +67,41 @@ where
     let typing = start_typing(rt, alloc, pens, reader, staying, desk, waker);
     let hosted = host_if(rt, alloc, typing.is_some(), node, taps, sinks, turns);
     desk.end();
-    join_if(rt, typing);
+    let typed = join_typing(rt, typing);
     match hosted {
-        Some((hosted, _)) => settle(hosted),
+        Some((hosted, well)) => settle(hosted, well, typed),
         None => Some(MemberFault::Script(ScriptFault::Memory)),
     }
 }
 
-// Why the run was no whole one; if it was, the two ends of each lane are put together.
-fn settle<P: Past<Entry> + Drop>(hosted: Hosted<P, Vec<PageMsg>>) -> Option<MemberFault>
-    requires { IfOk hosted.end (λ _. AreEndsOfLanes hosted.feeds.items (map (λ w. w.tap) hosted.worked.items)) }
-    ensures fault { result ≡ fault_of hosted.end (list_any lacks_memory hosted.worked.items) }
+// Why the run wasn't whole; if it was, both ends of each lane were put together, and the pens beside their well.
+fn settle<P: Past<Entry> + Drop>(
+    hosted: Hosted<P, Vec<PageMsg>>,
+    well: Well,
+    typed: Option<TypedPens>,
+) -> Option<MemberFault>
+    requires lanes { IfOk hosted.end (λ _. AreEndsOfLanes hosted.feeds.items (map (λ w. w.tap) hosted.worked.items)) }
+    requires pens { IfSome typed (λ t. IfOk hosted.end (λ _. (t.first.well ≡ well.well) × AllByRecursion (λ p. p.well ≡ well.well) t.others.items)) }
+    ensures fault { result ≡ None → fault_of_lists (fault_of hosted.end (list_any lacks_memory hosted.worked.items)) (list_all has_close hosted.worked.items) ≡ None }
     ensures takes { result ≡ None → TakePrefixes hosted.feeds.items (map (λ w. w.tap) hosted.worked.items) }
+    ensures pens { result ≡ None → ((t : ThePens) × (typed ≡ Some t) × IsReceivedOf well.received t.first × AllByRecursion (IsReceivedOf well.received) t.others.items) }
+{
+    match typed {
+        Some(typed) => settle_typed(hosted, well, typed),
+        None => Some(MemberFault::Script(ScriptFault::Memory)),
+    }
+}
+
+fn settle_typed<P: Past<Entry> + Drop>(
+    hosted: Hosted<P, Vec<PageMsg>>,
+    well: Well,
+    typed: TypedPens,
+) -> Option<MemberFault>
+    requires lanes { IfOk hosted.end (λ _. AreEndsOfLanes hosted.feeds.items (map (λ w. w.tap) hosted.worked.items)) }
+    requires pens { IfOk hosted.end (λ _. (typed.first.well ≡ well.well) × AllByRecursion (λ p. p.well ≡ well.well) typed.others.items) }
+    ensures fault { result ≡ fault_of_lists (fault_of hosted.end (list_any lacks_memory hosted.worked.items)) (list_all has_close hosted.worked.items) }
+    ensures takes { result ≡ None → TakePrefixes hosted.feeds.items (map (λ w. w.tap) hosted.worked.items) }
+    ensures pens { result ≡ None → (IsReceivedOf well.received typed.first × AllByRecursion (IsReceivedOf well.received) typed.others.items) }
 {
     let Hosted {
         feeds,
@@ -81,75 +109,25 @@ fn settle<P: Past<Entry> + Drop>(hosted: Hosted<P, Vec<PageMsg>>) -> Option<Memb
         end,
         ..
     } = hosted;
-    let fault = MemberFault::of_run(end, worked.as_slice());
-    if fault.is_none() {
-        settle_lanes(feeds, worked);
+    match MemberFault::of_whole_run(end, worked.as_slice()) {
+        Some(fault) => Some(fault),
+        None => {
+            put_together(feeds, worked, well, typed);
+            None
+        }
     }
-    fault
 }
 
-// Starts the thread of the pen that draws what is typed; the others are done. None where there is no memory for it.
-fn start_typing<R, I, O, E>(
-    rt: &R,
-    alloc: Global,
-    pens: Vec<Pen>,
-    reader: I,
-    staying: Staying,
-    desk: &Arc<Desk<O, E>, Global>,
-    waker: Waking,
-) -> Option<JoinHandle<Inked>>
-where
-    R: time::Clock + Threads + Wait + Copy + Send + Drop + 'static,
-    I: Read + Send + Drop + 'static,
-    O: Write + Send + Drop + 'static,
-    E: Write + Send + Drop + 'static,
+// Puts both ends of each lane together, and the pens beside their well.
+fn put_together(feeds: Vec<Feed>, worked: Vec<Worked>, well: Well, typed: TypedPens)
+    requires lanes { AreEndsOfLanes feeds.items (map (λ w. w.tap) worked.items) }
+    requires pens { (typed.first.well ≡ well.well) × AllByRecursion (λ p. p.well ≡ well.well) typed.others.items }
+    ensures takes { TakePrefixes feeds.items (map (λ w. w.tap) worked.items) }
+    ensures pens { IsReceivedOf well.received typed.first × AllByRecursion (IsReceivedOf well.received) typed.others.items }
 {
-    match (first_of(pens), Arc::try_clone(desk)) {
-        (Some(pen), Ok(desk)) => spawn_typing(rt, alloc, pen, reader, staying, desk, waker),
-        _ => None,
-    }
-}
-
-fn spawn_typing<R, I, O, E>(
-    rt: &R,
-    alloc: Global,
-    pen: Pen,
-    reader: I,
-    staying: Staying,
-    desk: Arc<Desk<O, E>, Global>,
-    waker: Waking,
-) -> Option<JoinHandle<Inked>>
-where
-    R: time::Clock + Threads + Wait + Copy + Send + Drop + 'static,
-    I: Read + Send + Drop + 'static,
-    O: Write + Send + Drop + 'static,
-    E: Write + Send + Drop + 'static,
-{
-    let own = *rt;
-    match thread::spawn(
-        rt,
-        move || draw_typed(&own, alloc, reader, pen, &staying, &desk, &waker),
-    ) {
-        Ok(typing) => Some(typing),
-        Err(_) => None,
-    }
-}
-
-// The first of these pens; the others are done.
-fn first_of(pens: Vec<Pen>) -> Option<Pen>
-    ensures { result ≡ slice_get pens.items 0 }
-{
-    let mut pens = VecDeque::from(pens);
-    let first = pens.pop_front();
-    for other in pens {
-        other.done();
-    }
-    first
-}
-
-/// Waits for a thread that ends with the node, if there is one.
-pub fn join_if<R: Threads, T: Drop>(rt: &R, thread: Option<JoinHandle<T>>) {
-    if let Some(thread) = thread {
-        thread.join(rt);
-    }
+    let TypedPens { first, others } = typed;
+    let mut well = well;
+    settle_lanes(feeds, worked);
+    well.join_pen(first);
+    join_pens(&mut well, others);
 }

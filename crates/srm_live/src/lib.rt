@@ -4,13 +4,13 @@
 //! let status = run_live(&rt, options, PolledInput::new(&rt, alloc, rt.stdin(), STDIN), rt.stdout(), rt.stderr());
 //! ```
 //!
-//! The member's node runs in the calling thread; its one pen, its eight page workers and what tells the news in threads of their own. [`run_live`] draws each line as it
-//! comes, and prints each message as it is taken. It owns its streams, since threads of its own read and write them, and wants
-//! of its input that it says where nothing is there yet, as [`PolledInput`] does.
+//! The member's node runs in the calling thread; its one pen, its eight page workers and the one that tells news in threads of their own. [`run_live`] draws each line as it
+//! comes, and prints each message as it is taken. It owns its streams, since its threads read and write them. Its input must say where nothing is there yet, as
+//! [`PolledInput`] does.
 //!
-//! **What is refused**, in this order: an address that can't be bound, and what ends a run. It reads last, and goes on behind a line that is too long. Where several things
-//! befell a run, want of memory is told before all else, then what ended the node's run, an output that failed, and an input that did.
-//! [`MemberFault`](srm_member::MemberFault) has the text and the status of each, but that an address which can't be bound is told with the cause: `srm: cannot bind 127.0.0.1:80: permission denied`. A
+//! **Errors**, in this order: a key file that can't be used, an address that can't be bound, and what ends a run. It reads last, and goes on behind a line that is too long. If several things
+//! befell a run, it tells one: out of memory, else what ended the node's run, else an output that failed, else an input that did.
+//! [`MemberFault`](srm_member::MemberFault) has the text and the status of each; an address that can't be bound is told with the cause: `srm: cannot bind 127.0.0.1:80: permission denied`. A
 //! member that was in the session before, under the same number, is told so once, goes on, and ends with the status [`WAS_BEFORE`].
 #![tactic(auto)]
 
@@ -18,6 +18,7 @@ mod command;
 mod counted_wire;
 mod cut;
 mod desk;
+mod dropped;
 mod earlier;
 mod error_stream;
 mod holes;
@@ -41,6 +42,7 @@ mod telling;
 mod title;
 mod typed;
 mod typing;
+mod typing_thread;
 mod unfinished;
 mod watched;
 mod who;

@@ -8,10 +8,10 @@ use srm_member::MemberFault;
 use std::io::Write;
 use thiserror::Error;
 
-/// The status of a member that was in its session before, under the same number. None is greater.
+/// The status of a member that was in its session before, under the same number: the greatest status.
 pub const WAS_BEFORE: u8 = 5;
 
-/// Why a live member isn't run, or not to its end, or not as it should be. Its text is the line that standard error gets.
+/// Why a live member isn't run, or not to its end, or not as it should be. Its text is the line that goes to standard error.
 #[derive(Debug, Drop, Error)]
 pub enum LiveFault {
     /// As of a member that isn't live, with the cause where its address can't be bound.
@@ -23,7 +23,7 @@ pub enum LiveFault {
 }
 
 impl LiveFault {
-    /// What becomes of a run that ended with this fault, or whole: a member that was in the session before isn't as it should be.
+    /// Returns the fault of a run that ended with this fault, or whole: a whole run of a member that was in the session before is `WasBefore`.
     pub fn of_end(fault: Option<MemberFault>, was_before: bool) -> Option<LiveFault>
         ensures { result ≡ fault_of_end fault was_before }
     {
@@ -34,7 +34,7 @@ impl LiveFault {
         }
     }
 
-    /// Prints the fault on standard error, unless it was told before, and answers the status that the program ends with.
+    /// Prints the fault to `err`, unless it was told before, and returns the status that the program ends with.
     pub fn print<E: Write>(&self, err: &mut E) -> u8
         ensures status { result ≡ status_of_live self.now }
         ensures greatest { result ≤ WAS_BEFORE }

@@ -10,7 +10,7 @@ use std::alloc::{AllocError, Global};
 use std::io::Write;
 use std::sync::{Arc, Wait};
 
-/// Prints each message as it is taken. One that can't be printed stops no worker, since the others of the session go on.
+/// Prints each message as it is taken. A message that can't be printed stops no worker, since the others of the session go on.
 #[derive(Drop)]
 pub struct Printing<R: Wait + Drop, O: Drop, E: Drop> {
     rt: R,
@@ -18,13 +18,17 @@ pub struct Printing<R: Wait + Drop, O: Drop, E: Drop> {
 }
 
 impl<R: Wait + Drop, O: Write + Drop, E: Write + Drop> PageSink for Printing<R, O, E> {
+    ghost use Rattle.srm_member.specs.Sinks.{NeverStops};
+
+    ghost sees = { NeverStops };
+
     fn message(&mut self, slot: u8, message: &PageMsg) -> bool {
         self.desk.print_taken(&self.rt, slot, message);
         true
     }
 }
 
-/// One for each slot. Only want of memory refuses it.
+/// Makes a sink for each slot. Fails only if out of memory.
 pub fn printing_sinks<R: Wait + Copy + Drop, O: Drop, E: Drop>(
     rt: &R,
     alloc: Global,

@@ -2,12 +2,14 @@
 
 ghost use Rattle.std.specs.Prelude.{◌≡◌, ◌≤◌, vec_len, IfOk};
 ghost use Rattle.srm_names.specs.declared.limits.TheConstants.{PAGES};
+ghost use Rattle.srm_guarded.specs.Guarding.{guarded_wire};
 ghost use Rattle.srm_member.specs.Stations.{HasNewEnds};
 ghost use Rattle.srm_live.specs.declared.live_fault.TheConstants.{WAS_BEFORE};
 ghost use Rattle.srm_live.specs.LiveStatuses.{IsLiveStatus};
 
 use crate::counted_wire::CountedWire;
 use crate::desk::Desk;
+use crate::dropped::Dropped;
 use crate::hosting::host_live;
 use crate::lingering::Staying;
 use crate::live_fault::LiveFault;
@@ -19,35 +21,37 @@ use crate::news::{Told, tell_news};
 use crate::telling::start_telling;
 use crate::unfinished::tell_unfinished;
 use crate::watched::Watched;
+use srm_guard::Key;
+use srm_guarded::{Guarded, Published, bind_guarded, read_key};
 use srm_member::{MemberFault, Station};
 use srm_options::NodeOptions;
 use srm_script::ScriptFault;
-use srm_udp::{Losses, UdpWire};
+use srm_udp::Losses;
 use std::alloc::{AllocError, Global};
 use std::io::{IsTerminal, Read, Write};
 use std::net::Net;
+use std::rt::Files;
 use std::sync::{Arc, Wait};
 use std::thread::{JoinHandle, Threads};
 use std::{mem, time};
 
-/// Runs a member with these options that draws each line of the input as it comes, by one pen, and prints what its page workers take as they
-/// do. It stays on for the options' time after the end of input, and then as long as others need what it holds, and leaves. A line that is too long is told to `err` and not drawn. One that
-/// begins with a slash is a command, `/who`, `/leave` or `/help`, and any other word is told to be none; with two slashes it is a stroke that has one. Where `err` is a terminal, the title of its window says each second
-/// what goes on.
+/// Runs a member with these options: draws each line of the input as it comes, by one pen, and prints what its page workers take as they take it. After the end of input it stays for the
+/// options' time, lingers as long as others need what it holds, and leaves.
 ///
-/// An output that fails ends reading, and so do an input that does and want of memory; the member then stays and leaves all the same, since others may need what it
-/// holds. What ended it goes to `err`: of several things want of memory, or else what ended the node's run, or else the output. The options' `live` isn't asked
-/// for. An input may answer `WouldBlock` where nothing is there yet, and is asked again: while it waits itself, the member
-/// can't end.
+/// A line that is too long is told to `err` and not drawn. A line that begins with a slash is a command, `/who`, `/leave` or `/help`; another word is told to be none. With two slashes a line is a
+/// stroke that begins with one. The options' `live` isn't used. An input may return `WouldBlock` where nothing is there yet, and is asked again; while a read waits, the member can't end.
 ///
-/// Who of the others is here, falls silent for ten seconds or leaves is told to `err`, and so is, once, that the member was in the session before, and the cause for which its address can't be
-/// bound; at the end who wasn't heard leaving, of which streams drawops are missing, and what the network refused to take.
+/// `err` gets who of the others is here, falls silent for ten seconds or leaves; once that the member was in the session before; why its address can't be bound; and at the end who wasn't heard
+/// leaving, which streams miss drawops, what the network refused and what was dropped. If `err` is a terminal, the title of its window says each second what goes on.
 ///
-/// Answers the program's status, which is that of [`run_node`](srm_member::run_node), but that a line which is too long is no fault, and that a whole run of a member that was in the session
+/// A failing output or input and running out of memory end the reading; the member stays and leaves all the same, since others may need what it holds. Then `err` gets one fault: out of memory, else
+/// what ended the node's run, else the output, else the input.
+///
+/// Returns the program's status: that of [`run_node`](srm_member::run_node), except that a line which is too long is no fault, and that a whole run of a member that was in the session
 /// before has the status [`WAS_BEFORE`](crate::WAS_BEFORE). All threads that it started have ended then.
 pub fn run_live<R, I, O, E>(rt: &R, options: NodeOptions, reader: I, out: O, err: E) -> u8
 where
-    R: Net + time::Clock + Threads + Wait + AllocGlobal + Copy + Send + Drop + 'static,
+    R: Net + Files + time::Clock + Threads + Wait + AllocGlobal + Copy + Send + Drop + 'static,
     I: Read + Send + Drop + 'static,
     O: Write + Send + Drop + 'static,
     E: Write + IsTerminal + Send + Drop + 'static,
@@ -70,7 +74,7 @@ fn run_at<R, I, O, E>(
     desk: &Arc<Desk<O, E>, Global>,
 ) -> u8
 where
-    R: Net + time::Clock + Threads + Wait + Copy + Send + Drop + 'static,
+    R: Net + Files + time::Clock + Threads + Wait + Copy + Send + Drop + 'static,
     I: Read + Send + Drop + 'static,
     O: Write + Send + Drop + 'static,
     E: Write + Send + Drop + 'static,
@@ -109,7 +113,7 @@ fn run_printing<R, I, O, E>(
     desk: &Arc<Desk<O, E>, Global>,
 ) -> Option<LiveFault>
 where
-    R: Net + time::Clock + Threads + Wait + Copy + Send + Drop + 'static,
+    R: Net + Files + time::Clock + Threads + Wait + Copy + Send + Drop + 'static,
     I: Read + Send + Drop + 'static,
     O: Write + Send + Drop + 'static,
     E: Write + Send + Drop + 'static,
@@ -119,7 +123,11 @@ where
     let Ok(staying) = staying_of(alloc, &options) else {
         return Some(out_of_memory());
     };
-    match bind(rt, alloc, options, &staying, desk) {
+    let key = match read_key(rt, alloc, &options.guard) {
+        Ok(key) => key,
+        Err(fault) => return Some(LiveFault::Member(MemberFault::from(fault))),
+    };
+    match bind(rt, alloc, options, key, &staying, desk) {
         Ok(station) => {
             let telling = start_telling(rt, desk);
             let run = host_live(rt, alloc, station, sinks, reader, staying, turns, desk);
@@ -147,6 +155,7 @@ fn tell_last<R: Wait, O: Write, E: Write>(rt: &R, told: Told, desk: &Desk<O, E>)
     let _ = tell_news(rt, tally, told, desk);
     tell_unfinished(rt, tally, desk);
     tell_lost(rt, tally.losses(), desk);
+    tell_dropped(rt, tally.dropped(), desk);
     tally.was_before()
 }
 
@@ -156,6 +165,16 @@ fn tell_lost<R: Wait, O: Write, E: Write>(rt: &R, losses: Losses, desk: &Desk<O,
         return;
     }
     if let Ok(line) = format!(in desk.alloc(); "srm: lost on the way out: {}\n", Lost(losses)) {
+        desk.tell(rt, line.as_str());
+    }
+}
+
+// Tells what was received and dropped, if anything was. Without memory for the line it is left out.
+fn tell_dropped<R: Wait, O: Write, E: Write>(rt: &R, dropped: Dropped, desk: &Desk<O, E>) {
+    if dropped == Dropped::none() {
+        return;
+    }
+    if let Ok(line) = format!(in desk.alloc(); "srm: dropped: {dropped}\n") {
         desk.tell(rt, line.as_str());
     }
 }
@@ -175,14 +194,16 @@ fn bind<R, O, E>(
     rt: &R,
     alloc: Global,
     options: NodeOptions,
+    key: Option<Key>,
     staying: &Staying,
     desk: &Desk<O, E>,
-) -> Result<Station<R, CountedWire, Needed<Watched>>, LiveFault>
+) -> Result<Station<R, CountedWire, Published<Needed<Watched>>>, LiveFault>
 where
     R: Net + time::Clock + Copy + Drop,
     O: Write,
     E: Write,
-    ensures { IfOk result (λ s. HasNewEnds s.node.view s.taps.items s.pens.items) }
+    ensures new { IfOk result (λ s. HasNewEnds s.node.view s.taps.items s.pens.items) }
+    ensures guarded { IfOk result (λ s. s.node.view.wire.wire ≡ guarded_wire options.addresses.items options.guard key) }
 {
     let mut options = options;
     options.stay = 0;
@@ -191,12 +212,12 @@ where
     let Some(own) = addresses.get(me.index()).copied() else {
         return Err(LiveFault::Member(MemberFault::Wire));
     };
-    match UdpWire::bind(rt, alloc, me, addresses) {
-        Ok(wire) => {
-            let waker = wire.waker().ok();
+    match bind_guarded(rt, alloc, options.config, &options.guard, key, addresses) {
+        Ok(Guarded { wire, waker, known }) => {
             let wire = CountedWire::new(wire, desk.share_tally());
             let watched = Watched::new(alloc, options.config, desk.share_tally());
             let past = Needed::new(alloc, watched, Arc::try_clone(&staying.need).ok());
+            let past = Published::new(alloc, past, known);
             match Station::with_past(rt, alloc, &options, wire, waker, past) {
                 Ok(station) => Ok(station),
                 Err(fault) => Err(LiveFault::Member(fault)),

@@ -1,6 +1,7 @@
 //! What a live member tells of the others, and of itself, once each.
 
 use crate::desk::Desk;
+use crate::dropped::Dropped;
 use crate::presence::{Presence, Standing};
 use crate::tally::Tally;
 use srm_names::{MEMBERS, Member};
@@ -12,6 +13,7 @@ use std::sync::Wait;
 pub struct Told {
     presence: Presence,
     was_before: bool,
+    dropped: Dropped,
 }
 
 impl Told {
@@ -20,12 +22,13 @@ impl Told {
         Told {
             presence: Presence::none(),
             was_before: false,
+            dropped: Dropped::none(),
         }
     }
 }
 
-/// Tells what changed since: who of the others is here, fell silent or left, and that the member with this number was in the session before. A line for which there is no memory is
-/// left out.
+/// Tells what changed since: who of the others is here, fell silent or left, that the member with this number was in the session before, and why the first datagram was dropped. A line for which
+/// there is no memory is left out.
 pub fn tell_news<R: Wait, O: Write, E: Write>(
     rt: &R,
     tally: &Tally,
@@ -35,6 +38,7 @@ pub fn tell_news<R: Wait, O: Write, E: Write>(
     let now = Told {
         presence: tally.presence(),
         was_before: tally.was_before(),
+        dropped: tally.dropped(),
     };
     if now == told {
         return now;
@@ -55,7 +59,29 @@ pub fn tell_news<R: Wait, O: Write, E: Write>(
             "was in this session before: use another number or another session",
         );
     }
+    tell_first_dropped(rt, desk, told.dropped, now.dropped);
     now
+}
+
+// Tells why datagrams are dropped as the first is, where the member's options may be wrong.
+fn tell_first_dropped<R: Wait, O: Write, E: Write>(
+    rt: &R,
+    desk: &Desk<O, E>,
+    told: Dropped,
+    now: Dropped,
+) {
+    if told.untagged == 0 && now.untagged > 0 {
+        desk.tell(
+            rt,
+            "srm: dropped a datagram without the right tag: do all members have this key?\n",
+        );
+    }
+    if told.strangers == 0 && now.strangers > 0 {
+        desk.tell(
+            rt,
+            "srm: dropped a datagram from outside the roster: --any-origin takes such\n",
+        );
+    }
 }
 
 fn tell<R: Wait, O: Write, E: Write>(rt: &R, desk: &Desk<O, E>, member: Member, news: &str) {

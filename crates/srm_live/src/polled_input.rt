@@ -15,9 +15,8 @@ use std::time::Duration;
 /// How long a read waits for the first byte, at most, in microseconds.
 const WAIT: u64 = 10_000;
 
-/// An input of the system that is waited for only so long: a read that finds nothing answers `WouldBlock` after 10,000 microseconds. So
-/// whoever reads sees that nothing more is wanted, while nobody types. Where the system can't tell whether something is there, as of a file, which
-/// always has it, a read waits as long as it takes. Contracts see it as its reader.
+/// An input of the system whose reads wait 10,000 microseconds at most: a read that finds nothing returns `WouldBlock`. So a thread that reads can see that the member ends, while nobody
+/// types. If the system can't tell whether something is there, as of a file, a read waits as long as it takes. Contracts see it as its reader.
 #[derive(Drop)]
 pub struct PolledInput<I> {
     reader: I,
@@ -32,7 +31,7 @@ impl<I> Model for PolledInput<I> {
 }
 
 impl<I: Read> PolledInput<I> {
-    /// What a reader reads, waited for at its own descriptor. It may keep no bytes in a buffer, as those wouldn't be seen there.
+    /// Makes the input over a reader of this descriptor. The reader may keep no bytes in a buffer, since a wait at the descriptor wouldn't see them.
     pub fn new(net: &impl Net, alloc: Global, reader: I, descriptor: RawFd) -> PolledInput<I>
         ensures { result ≡ reader }
     {

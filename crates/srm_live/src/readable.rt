@@ -1,19 +1,20 @@
 //! Bodies as a live member prints them.
 
-ghost use Rattle.std.specs.Prelude.{◌≡◌};
+ghost use Rattle.std.specs.Prelude.{◌≡◌, string_bytes, IfOk};
 ghost use Rattle.srm_live.specs.Readable as spec;
+ghost use Rattle.srm_live.specs.Readable.{readable_text};
 
 use bstr::ByteSlice;
 use std::alloc::{AllocError, Global};
 
-/// The text of a body: its characters in UTF-8, but a question mark for each control character, for each that turns the direction of the text, and for each run of
-/// bytes that begins no character. So what another member drew can't steer the terminal. Only out of memory refuses it. It takes time in proportion to the body.
-pub fn readable(alloc: Global, body: &[u8]) -> Result<String, AllocError> {
-    let mut text = String::with_capacity(alloc, body.len())?;
-    for character in body.chars() {
-        text.push(shown_character(character))?;
-    }
-    Ok(text)
+/// Returns the text of a body: its characters in UTF-8, but a question mark for each control character, for each that turns the direction of the text, and for each run of
+/// bytes that begins no character. So what another member drew can't steer the terminal.
+///
+/// Fails only if out of memory. Takes time in proportion to the body.
+pub fn readable(alloc: Global, body: &[u8]) -> Result<String, AllocError>
+    ensures { IfOk result (λ text. string_bytes text ≡ readable_text body.now) }
+{
+    body.chars().map(shown_character).collect(alloc)
 }
 
 // A character as it is shown.

@@ -1,5 +1,6 @@
 //! What a member goes through, counted.
 
+use crate::dropped::{Dropped, DroppedCounts};
 use crate::holes::Holes;
 use crate::lost::{Lost, LostCounts};
 use crate::presence::Presence;
@@ -26,6 +27,7 @@ pub struct Tally {
     ignored: AtomicU64,
     noise: AtomicU64,
     lost: LostCounts,
+    dropped: DroppedCounts,
 }
 
 impl Tally {
@@ -45,6 +47,7 @@ impl Tally {
             ignored: AtomicU64::new(0),
             noise: AtomicU64::new(0),
             lost: LostCounts::new(),
+            dropped: DroppedCounts::new(),
         })
     }
 
@@ -119,6 +122,16 @@ impl Tally {
         self.lost.losses()
     }
 
+    /// Says that so many were received and dropped by now.
+    pub fn show_dropped(&self, dropped: Dropped) {
+        self.dropped.show(dropped);
+    }
+
+    /// Returns how many were received and dropped by now.
+    pub fn dropped(&self) -> Dropped {
+        self.dropped.dropped()
+    }
+
     /// What goes on by now, in a session of so many others.
     pub fn activity(&self, others: u8) -> Activity {
         Activity {
@@ -132,6 +145,7 @@ impl Tally {
             ignored: self.ignored.load(Ordering::SeqCst),
             noise: self.noise.load(Ordering::SeqCst),
             losses: self.losses(),
+            dropped: self.dropped(),
         }
     }
 }
@@ -160,6 +174,8 @@ pub struct Activity {
     pub noise: u64,
     /// The datagrams that were lost on their way out, each once for each member that it was to go to.
     pub losses: Losses,
+    /// The datagrams that were received and dropped.
+    pub dropped: Dropped,
 }
 
 impl fmt::Display for Activity {
@@ -171,6 +187,9 @@ impl fmt::Display for Activity {
         write!(f, "ignored {}, noise {}", self.ignored, self.noise)?;
         if self.losses != Losses::none() {
             write!(f, ", lost: {}", Lost(self.losses))?;
+        }
+        if self.dropped != Dropped::none() {
+            write!(f, ", dropped: {}", self.dropped)?;
         }
         Ok(())
     }

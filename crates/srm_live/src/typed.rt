@@ -51,7 +51,7 @@ impl Line {
         }
     }
 
-    /// Takes a byte that is no line end. Only want of memory refuses it.
+    /// Takes a byte that is no line end. Fails only if out of memory, and then nothing has changed.
     pub fn push(&mut self, byte: u8) -> Result<(), AllocError>
         ensures ok { OnOk result (self.new ≡ with_byte byte self.old) }
         ensures err { OnErr result (self.new ≡ self.old) }
@@ -62,7 +62,7 @@ impl Line {
         Ok(())
     }
 
-    /// Ends the line, and begins the next. Only want of memory refuses it, and then it didn't end.
+    /// Ends the line, returns what it says, and begins the next. Fails only if out of memory, and then it didn't end.
     pub fn end(&mut self) -> Result<Typed, AllocError>
         ensures ok { IfOk result (λ typed. typed ≡ typed_of self.old) }
         ensures next { OnOk result (self.new ≡ line_after self.old) }
@@ -78,7 +78,7 @@ impl Line {
         Ok(typed)
     }
 
-    /// Whether nothing of the line is typed.
+    /// Returns whether nothing of the line is typed.
     pub fn is_empty(&self) -> bool
         ensures { IsTrue result ↔ (self.now.kept ≡ []) }
     {
@@ -86,7 +86,7 @@ impl Line {
     }
 }
 
-// What a line says that isn't too long. Only out of memory refuses it.
+// What a line says that isn't too long. Fails only if out of memory.
 fn said(alloc: Global, line: &[u8]) -> Result<Typed, AllocError>
     ensures { IfOk result (λ typed. typed ≡ said_of line.now) }
 {

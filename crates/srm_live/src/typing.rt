@@ -2,7 +2,7 @@
 
 ghost use Rattle.std.specs.Prelude.{◌≡◌, ◌<◌, ◌≤◌, ◌∷◌, [], length, take, IfOk, IfSome, OnOk, OnErr, MatchResult, MatchOption};
 ghost use Rattle.std.specs.Io.KnownBytes.{Consumes, Keeps, IsAtEnd};
-ghost use Rattle.srm_live.specs.Typing.{bodies_in, PenSent, DrawsTyped, DrawsSome, DrawsLast, PenSentAllOf, PenSentPrefixOf};
+ghost use Rattle.srm_live.specs.Typing.{bodies_in, PenSent, SamePen, DrawsTyped, DrawsSome, DrawsLast, PenSentAllOf, PenSentPrefixOf};
 
 use crate::cut::ReadingEnd;
 use crate::desk::Desk;
@@ -24,8 +24,9 @@ const READ: usize = 1_024;
 /// How long to wait before a reader that has nothing yet is asked again, in microseconds.
 const WAIT: u64 = 1_000;
 
-/// Draws each line of a reader with one pen, or does what it says, stays once the reader ended, and then is done. Nothing more is drawn once it is to leave, the output
-/// is closed or the node has ended; then it is done after as long, or at once.
+/// Draws each line of a reader with one pen, or does what its command says, stays once the reader ended, and returns the pen, which is done.
+///
+/// It stops drawing as soon as the member is to leave, the output is closed, the input fails, memory runs out or the node has ended, and stays as long, but not past the node's end.
 pub fn draw_typed<R: Clock + Wait, I: Read + Drop, O: Write, E: Write>(
     rt: &R,
     alloc: Global,
@@ -35,7 +36,8 @@ pub fn draw_typed<R: Clock + Wait, I: Read + Drop, O: Write, E: Write>(
     desk: &Desk<O, E>,
     waker: &Waking,
 ) -> Inked
-    ensures { PenSentPrefixOf (I.remaining reader) pen result }
+    ensures prefix { PenSentPrefixOf (I.remaining reader) pen result }
+    ensures same { SamePen pen result }
 {
     let mut reader = reader;
     let mut pen = pen;
@@ -56,7 +58,7 @@ pub fn draw_typed<R: Clock + Wait, I: Read + Drop, O: Write, E: Write>(
 }
 
 // Draws each line of a reader, until it ends.
-#[tactic(auto, using(crate::proofs::TypedLines::prefix_none))]
+#[tactic(auto, using(crate::proofs::TypedLines::prefix_none, crate::proofs::TypedLines::same_none))]
 fn draw_lines<R: Clock + Wait, I: Read, O: Write, E: Write>(
     rt: &R,
     alloc: Global,
@@ -67,6 +69,7 @@ fn draw_lines<R: Clock + Wait, I: Read, O: Write, E: Write>(
 ) -> Result<(), ReadingEnd>
     ensures all { OnOk result (PenSentAllOf (I.remaining reader.old) pen.old pen.new) }
     ensures prefix { PenSentPrefixOf (I.remaining reader.old) pen.old pen.new }
+    ensures same { SamePen pen.old pen.new }
 {
     let mut line = Line::new(alloc);
     let mut buffer = vec![in alloc; 0; READ]?;
@@ -82,7 +85,7 @@ fn draw_lines<R: Clock + Wait, I: Read, O: Write, E: Write>(
 }
 
 // Draws each line of a reader that is read by this buffer.
-#[tactic(auto, using(crate::proofs::TypedLines::reads_none, crate::proofs::TypedLines::reads_cut))]
+#[tactic(auto, using(crate::proofs::TypedLines::reads_none, crate::proofs::TypedLines::reads_cut, crate::proofs::TypedLines::same_none, crate::proofs::TypedLines::same_still))]
 fn draw_read<R: Clock + Wait, I: Read, O: Write, E: Write>(
     rt: &R,
     reader: &mut I,
@@ -96,6 +99,7 @@ fn draw_read<R: Clock + Wait, I: Read, O: Write, E: Write>(
     requires none { line.old.kept ≡ [] }
     ensures all { OnOk result (PenSentAllOf (I.remaining reader.old) pen.old pen.new) }
     ensures prefix { PenSentPrefixOf (I.remaining reader.old) pen.old pen.new }
+    ensures same { SamePen pen.old pen.new }
 {
     for _ in rt.forever() {
         if desk.is_over() {

@@ -1,6 +1,5 @@
 -- New lanes serve a new node and its workers.
-use Rattle.std.proofs.Common.{◌≡◌, ℕ, List, arith}
-use Rattle.std.specs.Prelude.{Some, slice_get}
+use Rattle.std.proofs.Common.{ℕ, List, arith}
 use Rattle.std.proofs.lemmas.Option.{slice_get_within}
 use Rattle.srm_names.proofs.Lists.{at_place}
 use Rattle.srm_pages.specs.Ends.{FeedView, TapView, AreLanes}

@@ -1,9 +1,11 @@
 pub mod PensJoined
 pub mod Together
 pub mod WholeRuns
+pub mod Dealt
 pub mod Elements
 pub mod Gathered
 pub mod Lanes
 pub mod Splitting
 pub mod Stations
 pub mod Strokes
+pub mod WholeTakes

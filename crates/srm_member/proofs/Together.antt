@@ -1,6 +1,5 @@
 -- The ends of lanes, put together one after another.
-use Rattle.std.proofs.Common.{◌≡◌, ℕ, zero, suc, List, [], ◌∷◌, ◌++◌, map, refl, ap, sym, ◌∙◌, subst}
-use Rattle.std.specs.Prelude.{Some, slice_get}
+use Rattle.std.proofs.Common.{◌≡◌, zero, suc, List, ◌∷◌, ◌++◌, map, refl, ap, sym, ◌∙◌, subst}
 use Rattle.std.proofs.lemmas.Option.{same_Some}
 use Rattle.srm_names.specs.Histories.{IsPrefix}
 use Rattle.srm_names.specs.declared.page_msg.PageMsg.{PageMsg}

@@ -3,14 +3,15 @@ use Rattle.std.proofs.Common.{◌≡◌, ℕ, zero, suc, ◌<◌, Bool, true, fa
 use Rattle.std.specs.Prelude.{Option, Some, None, Result, Ok, Err, slice_get, MatchBool, MatchResult, IfOk}
 use Rattle.std.specs.Bool.{OnTrue}
 use Rattle.std.specs.Io.KnownBytes.{Appends}
-use Rattle.std.specs.List.{AllByRecursion, zip}
+use Rattle.std.specs.List.{AllByRecursion, list_all, list_any, zip}
 use Rattle.std.proofs.lemmas.Option.{same_Some, slice_get_within}
 use Rattle.std.proofs.lemmas.List.{append-nil, map-append, length-map}
 use Rattle.srm_names.specs.declared.limits.TheConstants.{PAGES, PENS}
 use Rattle.srm_names.specs.declared.page_msg.PageMsg.{PageMsg}
 use Rattle.srm_names.specs.Histories.{IsPrefix}
+use Rattle.srm_names.specs.PageFeeds.{is_close}
 use Rattle.srm_names.proofs.Lists.{front_of_front, at_place, by_place}
-use Rattle.srm_pages.specs.Ends.{FeedView, TapView, PenView, WellView}
+use Rattle.srm_pages.specs.Ends.{TapView, PenView, WellView}
 use Rattle.srm_pages.specs.Ink.{strokes_of}
 use Rattle.srm_entries.specs.Giving.{given}
 use Rattle.srm_world.specs.Traces.{Journal}
@@ -19,7 +20,6 @@ use Rattle.srm_node.specs.declared.fault.NodeFault.TheVariants.{Wire, Memory, Tu
 use Rattle.srm_node.specs.declared.hosting.Hosted.{Hosted}
 use Rattle.srm_node.specs.declared.working.Worked.{Worked}
 use Rattle.srm_node.specs.Calls.{Calls}
-use Rattle.srm_node.specs.Carrying.{Carries}
 use Rattle.srm_node.specs.Nodes.{NodeView}
 use Rattle.srm_node.specs.Working.{SeesEach, is_stopped}
 use Rattle.srm_node.specs.Hosting.{Kinds, WorkedAs, WorkedEach, HostsWith, SameWell}
@@ -28,6 +28,7 @@ use Rattle.srm_member.specs.Statuses.{fault_of}
 use Rattle.srm_member.specs.Strokes.{PenAndBodies, stroke_of, PenSentPrefix, PensDrew}
 use Rattle.srm_member.specs.TakenText.{taken_text}
 use Rattle.srm_member.specs.WholeRuns.{TakePrefixes, IsReceivedOf, SawEach, IsWholeHost, IsWholeRun}
+use Rattle.srm_member.proofs.WholeTakes.{whole_take, all_at}
 
 map_at : {X Y : Type 0} (f : X → Y) (xs : List X) (k : ℕ) (y : Y) → slice_get (map f xs) k ≡ Some y → (x : X) × (slice_get xs k ≡ Some x) × (f x ≡ y)
 map_at f [] k y at = cc
@@ -85,7 +86,7 @@ pub pens_of_well : {X C : Type 0} (node : NodeView X C) (taps : List TapView) (p
 pens_of_well node taps pens inked dealt well ends same drew =
     wells well pens dealt inked (λ k p at. ap (λ (x : PenView). x.well) (ends.new_pens k p at) ∙ sym (ap (λ (w : WellView). w.well) same)) drew
 
-map_prefix : {X Y : Type 0} (f : X → Y) (xs ys : List X) → IsPrefix xs ys → IsPrefix (map f xs) (map f ys)
+pub map_prefix : {X Y : Type 0} (f : X → Y) (xs ys : List X) → IsPrefix xs ys → IsPrefix (map f xs) (map f ys)
 map_prefix f xs ys (rest, is) = (map f rest, sym (map-append f xs rest) ∙ ap (map f) is)
 
 -- THE WHOLE
@@ -101,6 +102,16 @@ takes_at {P} {L} calls kinds turns node taps pens sinks well h ends (x, well_is)
     let put = takes slot f w.tap at_f (at_map (λ (w : Worked L). w.tap) h.worked.items slot w at_w) in
     let gave = carried f.disconnected (given x.last.journal.entries slot) f.put (x.keeps.carries slot f (sym (ap (λ fs. slice_get fs slot) x.feeds) ∙ at_f)) in
     subst (λ (xs : List PageMsg). IsPrefix xs (given x.last.journal.entries slot)) taken (front_of_front w.tap.taken f.put (given x.last.journal.entries slot) put gave)
+
+-- and all of it, where the worker's list goes to its close
+whole_at : {P L S X C : Type 0} (calls : Calls X C) (kinds : Kinds L S) (turns : ℕ) (node : NodeView X C) (taps : List TapView) (pens : List PenView) (sinks : List S) (well : WellView) (h : Hosted P L)
+    → HasNewEnds node taps pens → (x : HostsWith calls kinds node (zip taps sinks) turns well h) → TakePrefixes h.feeds.items (map (λ (w : Worked L). w.tap) h.worked.items)
+    → list_all (λ (w : Worked L). list_any is_close (kinds.entries w.list)) h.worked.items ≡ true
+    → (slot : ℕ) (ms : List PageMsg) → slice_get (map (λ (w : Worked L). kinds.entries w.list) h.worked.items) slot ≡ Some ms → ms ≡ given x.0.last.journal.entries slot
+whole_at {P} {L} calls kinds turns node taps pens sinks well h ends (x, well_is) takes closed slot ms at =
+    let (w, at_w, list) = map_at (λ (w : Worked L). kinds.entries w.list) h.worked.items slot ms at in
+    whole_take ms (given x.last.journal.entries slot) (takes_at calls kinds turns node taps pens sinks well h ends (x, well_is) takes slot ms at) (x.keeps.lawful.gives.feeds slot)
+    (ap (list_any is_close) (sym list) ∙ all_at (λ (w : Worked L). list_any is_close (kinds.entries w.list)) h.worked.items slot w closed at_w)
 
 draws_at : {X C : Type 0} (node : NodeView X C) (taps : List TapView) (pens inked : List PenView) (dealt : List (List (List ℕ))) (well : WellView) → HasNewEnds node taps pens → PensDrew (zip pens dealt) inked → AllByRecursion (IsReceivedOf well.received) inked
     → (pen : ℕ) (bodies : List (List ℕ)) → pen < PENS → slice_get dealt pen ≡ Some bodies → IsPrefix (strokes_of pen well.received) (map (stroke_of pen) bodies)
@@ -121,22 +132,29 @@ saw_each {L} {S} kinds taps sinks ws new h = λ slot s ms at_s at.
     (worked.last, is_stopped w.end, subst (λ (xs : List PageMsg). SeesEach kinds.sees slot (is_stopped w.end) xs s worked.last) list at_slot)
 
 pub whole_host : {P L S X C : Type 0} (calls : Calls X C) (kinds : Kinds L S) (turns : ℕ) (node : NodeView X C) (taps : List TapView) (pens : List PenView) (sinks : List S) (well : WellView) (h : Hosted P L)
-    → HasNewEnds node taps pens → length sinks ≡ PAGES → HostsWith calls kinds node (zip taps sinks) turns well h → TakePrefixes h.feeds.items (map (λ (w : Worked L). w.tap) h.worked.items)
+    → HasNewEnds node taps pens → length sinks ≡ PAGES → HostsWith calls kinds node (zip taps sinks) turns well h → TakePrefixes h.feeds.items (map (λ (w : Worked L). w.tap) h.worked.items) → list_all (λ (w : Worked L). list_any is_close (kinds.entries w.list)) h.worked.items ≡ true
     → IsWholeHost calls turns node (map (λ (w : Worked L). kinds.entries w.list) h.worked.items)
-whole_host {P} {L} calls kinds turns node taps pens sinks well h ends count (x, well_is) takes = record {
+whole_host {P} {L} calls kinds turns node taps pens sinks well h ends count (x, well_is) takes closed = record {
   last = x.last;
   runs = x.runs;
   keeps = x.keeps;
   slots = length-map h.worked.items (λ (w : Worked L). kinds.entries w.list) ∙ worked_length kinds (zip taps sinks) h.worked.items x.workers ∙ zip_length taps sinks (ends.slots ∙ sym count) ∙ ends.slots;
-  takes = takes_at calls kinds turns node taps pens sinks well h ends (x, well_is) takes;
+  takes = whole_at calls kinds turns node taps pens sinks well h ends (x, well_is) takes closed;
 }
+
+-- and with it the well that the node had at its end
+pub whole_host_well : {P L S X C : Type 0} (calls : Calls X C) (kinds : Kinds L S) (turns : ℕ) (node : NodeView X C) (taps : List TapView) (pens : List PenView) (sinks : List S) (well : WellView) (h : Hosted P L)
+    → HasNewEnds node taps pens → length sinks ≡ PAGES → HostsWith calls kinds node (zip taps sinks) turns well h → TakePrefixes h.feeds.items (map (λ (w : Worked L). w.tap) h.worked.items) → list_all (λ (w : Worked L). list_any is_close (kinds.entries w.list)) h.worked.items ≡ true
+    → (host : IsWholeHost calls turns node (map (λ (w : Worked L). kinds.entries w.list) h.worked.items)) × (well ≡ host.last.well)
+unfolding whole_host
+whole_host_well {P} {L} calls kinds turns node taps pens sinks well h ends count (x, well_is) takes closed = (whole_host calls kinds turns node taps pens sinks well h ends count (x, well_is) takes closed, well_is)
 
 pub whole_run : {P L S X C : Type 0} (calls : Calls X C) (kinds : Kinds L S) (turns : ℕ) (node : NodeView X C) (taps : List TapView) (pens inked : List PenView) (sinks : List S) (dealt : List (List (List ℕ))) (well : WellView) (h : Hosted P L)
     → HasNewEnds node taps pens → length sinks ≡ PAGES → HostsWith calls kinds node (zip taps sinks) turns well h → PensDrew (zip pens dealt) inked
-    → TakePrefixes h.feeds.items (map (λ (w : Worked L). w.tap) h.worked.items) → AllByRecursion (IsReceivedOf well.received) inked → IsWholeRun calls turns dealt node (map (λ (w : Worked L). kinds.entries w.list) h.worked.items)
+    → TakePrefixes h.feeds.items (map (λ (w : Worked L). w.tap) h.worked.items) → list_all (λ (w : Worked L). list_any is_close (kinds.entries w.list)) h.worked.items ≡ true → AllByRecursion (IsReceivedOf well.received) inked → IsWholeRun calls turns dealt node (map (λ (w : Worked L). kinds.entries w.list) h.worked.items)
 unfolding whole_host
-whole_run {P} {L} calls kinds turns node taps pens inked sinks dealt well h ends count (x, well_is) drew takes parts = record {
-  host = whole_host calls kinds turns node taps pens sinks well h ends count (x, well_is) takes;
+whole_run {P} {L} calls kinds turns node taps pens inked sinks dealt well h ends count (x, well_is) drew takes closed parts = record {
+  host = whole_host calls kinds turns node taps pens sinks well h ends count (x, well_is) takes closed;
   draws = λ pen bodies below at. subst (λ (v : WellView). IsPrefix (strokes_of pen v.received) (map (stroke_of pen) bodies)) well_is (draws_at node taps pens inked dealt well ends drew parts pen bodies below at);
 }
 
@@ -151,12 +169,12 @@ without_fault (Err Turns) false A none holds = cc
 -- and what was printed is what its workers took, by its own member
 pub printed_run : {P L S X C : Type 0} (calls : Calls X C) (kinds : Kinds L S) (turns : ℕ) (node : NodeView X C) (taps : List TapView) (pens inked : List PenView) (sinks : List S) (dealt : List (List (List ℕ))) (well : WellView) (h : Hosted P L) (before after : Option (List ℕ)) (me : ℕ)
     → HasNewEnds node taps pens → length sinks ≡ PAGES → HostsWith calls kinds node (zip taps sinks) turns well h → PensDrew (zip pens dealt) inked
-    → TakePrefixes h.feeds.items (map (λ (w : Worked L). w.tap) h.worked.items) → AllByRecursion (IsReceivedOf well.received) inked → me ≡ h.journal.start.config.me
+    → TakePrefixes h.feeds.items (map (λ (w : Worked L). w.tap) h.worked.items) → list_all (λ (w : Worked L). list_any is_close (kinds.entries w.list)) h.worked.items ≡ true → AllByRecursion (IsReceivedOf well.received) inked → me ≡ h.journal.start.config.me
     → Appends before after (taken_text me (map (λ (w : Worked L). kinds.entries w.list) h.worked.items))
     → (whole : IsWholeRun calls turns dealt node (map (λ (w : Worked L). kinds.entries w.list) h.worked.items)) × Appends before after (taken_text whole.host.last.journal.start.config.me (map (λ (w : Worked L). kinds.entries w.list) h.worked.items))
 unfolding whole_run whole_host
-printed_run {P} {L} calls kinds turns node taps pens inked sinks dealt well h before after me ends count (x, well_is) drew takes parts of printed = (
-  whole_run calls kinds turns node taps pens inked sinks dealt well h ends count (x, well_is) drew takes parts,
+printed_run {P} {L} calls kinds turns node taps pens inked sinks dealt well h before after me ends count (x, well_is) drew takes closed parts of printed = (
+  whole_run calls kinds turns node taps pens inked sinks dealt well h ends count (x, well_is) drew takes closed parts,
   subst (λ (m : ℕ). Appends before after (taken_text m (map (λ (w : Worked L). kinds.entries w.list) h.worked.items))) (of ∙ ap (λ (j : Journal). j.start.config.me) x.journal) printed,
 )
 

@@ -9,7 +9,7 @@ use Rattle.srm_script.specs.declared.fault.ScriptFault.TheVariants.{StandardInpu
 use Rattle.srm_node.specs.declared.fault.NodeFault.TheVariants as node
 use Rattle.srm_member.specs.declared.fault.MemberFault.TheVariants.{Script, Wire, Turns}
 use Rattle.srm_member.specs.Lines.{lines_of, each_fourth, bad_line}
-use Rattle.srm_member.specs.Statuses.{fault_of, fault_of_live, fault_of_binding, status_of_member}
+use Rattle.srm_member.specs.Statuses.{fault_of, fault_of_lists, fault_of_live, fault_of_binding, status_of_member}
 use Rattle.srm_member.specs.TakenText.{taken_text}
 use Rattle.srm_timers.specs.Seeds.{words_of}
 
@@ -39,6 +39,9 @@ a_worker_without_memory = refl
 
 the_node_s_own_end : fault_of (Ok tt) false ∷ fault_of (Err node.Memory) false ∷ fault_of (Err node.Wire) false ∷ fault_of (Err node.Turns) false ∷ [] ≡ None ∷ Some (Script Memory) ∷ Some Wire ∷ Some Turns ∷ []
 the_node_s_own_end = refl
+
+a_list_without_its_close : fault_of_lists None true ∷ fault_of_lists None false ∷ fault_of_lists (Some Turns) false ∷ [] ≡ None ∷ Some (Script Memory) ∷ Some Turns ∷ []
+a_list_without_its_close = refl
 
 a_live_run : fault_of_live (Some Wire) (Some Memory) ∷ fault_of_live (Some Turns) (Some StandardInput) ∷ fault_of_live None (Some StandardInput) ∷ fault_of_live None None ∷ [] ≡ Some (Script Memory) ∷ Some Turns ∷ Some (Script StandardInput) ∷ None ∷ []
 a_live_run = refl

@@ -1,5 +1,5 @@
 -- The lines of an input, and whose they are.
-use Rattle.std.specs.Prelude.{◌≡◌, ◌≢◌, ℕ, zero, suc, ◌+◌, ◌-◌, ◌<◌, ◌≤◌, ◌==◌, nat_lt, List, [], ◌∷◌, length, slice_index, Option, Some, None, if◌then◌else◌}
+use Rattle.std.specs.Prelude.{◌≡◌, ◌≢◌, ℕ, zero, suc, ◌+◌, ◌-◌, ◌<◌, ◌≤◌, ◌==◌, nat_lt, List, [], ◌∷◌, ◌++◌, length, slice_index, slice_get, slice_set, Option, Some, None, if◌then◌else◌}
 use Rattle.srm_names.specs.declared.limits.TheConstants.{LONGEST_BODY, PENS}
 use Rattle.srm_script.specs.declared.fault.ScriptFault.{ScriptFault}
 use Rattle.srm_script.specs.declared.fault.ScriptFault.TheVariants.{BadLine, Memory}
@@ -28,6 +28,10 @@ each_fourth (suc others) (l ∷ ls) = each_fourth others ls
 -- the lines of each pen
 abbrev pub dealt_of : List (List ℕ) → List (List (List ℕ))
 dealt_of lines = each_fourth 0 lines ∷ each_fourth 1 lines ∷ each_fourth 2 lines ∷ each_fourth 3 lines ∷ []
+
+-- This list of a pen's bodies has one more, and those of the others are as they were.
+abbrev pub AddsTo : ℕ → List ℕ → List (List (List ℕ)) → List (List (List ℕ)) → Type 0
+AddsTo pen body old new = (bodies : List (List ℕ)) × (slice_get old pen ≡ Some bodies) × (new ≡ slice_set old pen (bodies ++ body ∷ []))
 
 -- the first line that is too long is named, or memory ran out
 abbrev pub IsRefusedFor : List (List ℕ) → ScriptFault → Type 0

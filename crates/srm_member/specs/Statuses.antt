@@ -14,6 +14,8 @@ use Rattle.srm_node.specs.declared.working.WorkEnd.TheVariants as end
 use Rattle.srm_node.specs.declared.working.Worked.{Worked}
 use Rattle.srm_options.specs.declared.reply.Reply.{Reply}
 use Rattle.srm_options.specs.declared.reply.Reply.TheVariants as reply
+use Rattle.srm_guarded.specs.declared.key_file.KeyFileFault.{KeyFileFault}
+use Rattle.srm_guarded.specs.declared.key_file.KeyFileFault.TheVariants as key
 use Rattle.srm_member.specs.declared.fault.MemberFault.{MemberFault}
 use Rattle.srm_member.specs.declared.fault.MemberFault.TheVariants as fault
 
@@ -32,6 +34,11 @@ fault_of (Ok _) false = None
 fault_of (Err Memory) false = Some (fault.Script OutOfMemory)
 fault_of (Err Wire) false = Some fault.Wire
 fault_of (Err Turns) false = Some fault.Turns
+
+-- Why a run was no whole one, by its fault, if it had one, and whether the list of each worker goes to its close: a list that doesn't was cut short, which only want of memory does.
+abbrev pub fault_of_lists : Option MemberFault → Bool → Option MemberFault
+fault_of_lists None false = Some (fault.Script OutOfMemory)
+fault_of_lists run _ = run
 
 -- Why a live run was no whole one, by why the run wasn't and what befell its streams: want of memory comes before all else, and then the run.
 abbrev pub fault_of_live : Option MemberFault → Option ScriptFault → Option MemberFault
@@ -55,12 +62,18 @@ abbrev pub fault_of_binding_at : Option SocketAddr → ErrorKind → MemberFault
 fault_of_binding_at (Some address) cause = fault_of_bind address cause
 fault_of_binding_at None cause = fault_of_binding cause
 
+-- Why a key file can't be used: there is no memory for it, or another cause.
+abbrev pub fault_of_key : KeyFileFault → MemberFault
+fault_of_key key.Memory = fault.Script OutOfMemory
+fault_of_key cause = fault.Key cause
+
 -- the status that the program ends with
 abbrev pub status_of_member : MemberFault → ℕ
 status_of_member (fault.Script f) = status_of f
 status_of_member fault.Wire = WIRE_FAILED
 status_of_member (fault.Binding address cause) = WIRE_FAILED
 status_of_member fault.Turns = RAN_OUT
+status_of_member (fault.Key cause) = FAILED
 
 -- a whole run has status 0, and any other that of its fault
 abbrev pub IsStatus : ℕ → Type 0

@@ -1,8 +1,9 @@
 -- What a member prints at its end.
-use Rattle.std.specs.Prelude.{ℕ, List, [], ◌∷◌, ◌++◌, map, flat_map, Some, Vec}
+use Rattle.std.specs.Prelude.{ℕ, Bool, List, [], ◌∷◌, ◌++◌, map, flat_map, Some, Vec}
 use Rattle.std.specs.Global.{Global}
-use Rattle.std.specs.List.{enumerate_from}
+use Rattle.std.specs.List.{enumerate_from, list_any}
 use Rattle.srm_names.specs.declared.page_msg.PageMsg.{PageMsg}
+use Rattle.srm_names.specs.PageFeeds.{is_close}
 use Rattle.srm_node.specs.declared.working.Worked.{Worked}
 use Rattle.srm_script.specs.TookLines.{took_text, gone_text}
 
@@ -29,3 +30,7 @@ taken_text me lists = worker_lines me lists ++ gone_line me
 -- what the workers took
 abbrev pub lists_of : List (Worked (Vec PageMsg Global)) → List (List PageMsg)
 lists_of workers = map (λ worker. worker.list.items) workers
+
+-- whether the list of a worker has the close, behind which nothing comes
+abbrev pub has_close : Worked (Vec PageMsg Global) → Bool
+has_close worker = list_any is_close worker.list.items

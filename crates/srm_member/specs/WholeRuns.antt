@@ -21,13 +21,13 @@ TakePrefixes feeds taps = (slot : ℕ) (f : FeedView) (t : TapView) → slice_ge
 abbrev pub IsReceivedOf : List Stroke → PenView → Type 0
 IsReceivedOf received p = IsPrefix (strokes_of p.number received) p.sent
 
--- The node ran to its end, and these are the lists of its workers by slot: each is a prefix of what the journal gave in that slot.
+-- The node ran to its end, and these are the lists of its workers by slot: each is what the journal gave in that slot, all of it.
 pub record IsWholeHost {X C : Type 0} (calls : Calls X C) (turns : ℕ) (node : NodeView X C) (took : List (List PageMsg)) : Type 0 where
   pub last : NodeView X C
   pub runs : RunsToEnd calls turns node last
   pub keeps : NodeKeepsLists last
   pub slots : length took ≡ PAGES
-  pub takes : (slot : ℕ) (ms : List PageMsg) → slice_get took slot ≡ Some ms → IsPrefix ms (given last.journal.entries slot)
+  pub takes : (slot : ℕ) (ms : List PageMsg) → slice_get took slot ≡ Some ms → ms ≡ given last.journal.entries slot
 
 -- the sink of each slot saw the list that its worker took, each message once and in order, and may have stopped it at the last
 abbrev pub SawEach : {S : Type 0} → (S → ℕ → PageMsg → Bool → S → Type 0) → List S → List (List PageMsg) → Type 0

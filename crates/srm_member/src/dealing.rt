@@ -1,69 +1,78 @@
 //! The lines of the input, dealt to the pens.
 
-ghost use Rattle.std.specs.Prelude.{◌≡◌, ◌<◌, [], None, map, IfOk, IfErr, MatchOption};
-ghost use Rattle.srm_member.specs.Lines.{lines_of, bad_line, each_fourth, dealt_of, IsRefusedFor, IsLineEnd, HasFirstLine};
+ghost use Rattle.std.specs.Prelude.{◌≡◌, ◌<◌, ◌∷◌, [], None, map, length, if◌then◌else◌, ◌+◌, ◌==◌, IfOk, IfErr, OnOk, MatchOption};
+ghost use Rattle.srm_names.specs.declared.limits.TheConstants.{PENS};
+ghost use Rattle.srm_member.specs.Lines.{lines_of, bad_line, dealt_of, AddsTo, IsRefusedFor, IsLineEnd, HasFirstLine};
 
 use bytes::Bytes;
+use memchr::memchr;
 use srm_names::{LONGEST_BODY, PENS};
 use srm_script::ScriptFault;
 use std::alloc::{AllocError, Global};
 
-/// Deals the lines of an input to the pens in turn, the first to the first: for each pen the bodies of its strokes. A line ends with a line
-/// end, which the last may lack unless it is empty. Refused is the first line of more than 1,024 bytes, and want of memory.
+/// Deals the lines of an input to the pens in turn, the first to the first.
+///
+/// A line ends with a line end, which the last may lack unless it is empty, and has at most 1,024 bytes without it. Returns for each of the four pens the bodies of its
+/// strokes, in order. The first line that is too long is refused as `BadLine` with its number, from 1, and out of memory as `Memory`. It goes through the input once,
+/// and copies each line.
 pub fn deal(alloc: Global, input: &[u8]) -> Result<Vec<Vec<Bytes>>, ScriptFault>
     ensures ok { IfOk result (λ dealt. (bad_line 1 (lines_of input.now) ≡ None) × (map (λ bodies. bodies.items) dealt.items ≡ dealt_of (lines_of input.now))) }
     ensures err { IfErr result (IsRefusedFor (lines_of input.now)) }
 {
-    if let Some(number) = first_bad_line(input) {
-        return Err(ScriptFault::BadLine(number));
-    }
-    Ok(deal_all(alloc, input)?)
-}
-
-// The bodies of each pen.
-fn deal_all(alloc: Global, input: &[u8]) -> Result<Vec<Vec<Bytes>>, AllocError>
-    ensures { IfOk result (λ dealt. map (λ bodies. bodies.items) dealt.items ≡ dealt_of (lines_of input.now)) }
-{
-    let mut dealt = Vec::new(alloc);
-    dealt.push(bodies_of(alloc, input, 0)?)?;
-    dealt.push(bodies_of(alloc, input, 1)?)?;
-    dealt.push(bodies_of(alloc, input, 2)?)?;
-    dealt.push(bodies_of(alloc, input, 3)?)?;
-    Ok(dealt)
-}
-
-// The number of the first line that is too long, from 1.
-fn first_bad_line(input: &[u8]) -> Option<u64>
-    ensures { result ≡ bad_line 1 (lines_of input.now) }
-{
+    let mut dealt = no_lists(alloc)?;
     let mut left = input;
     let mut number = 1;
+    let mut pen = 0;
     while let Some((line, rest)) = next_line(left) {
         if line.len() > usize::from(LONGEST_BODY) {
-            return Some(number);
+            return Err(ScriptFault::BadLine(number));
         }
+        add_to(alloc, &mut dealt, pen, line)?;
+        pen = next_pen(pen);
         number += 1;
         left = rest;
     }
-    None
+    Ok(dealt)
 }
 
-// The lines of a pen.
-fn bodies_of(alloc: Global, input: &[u8], pen: u8) -> Result<Vec<Bytes>, AllocError>
-    ensures { IfOk result (λ bodies. bodies.items ≡ each_fourth pen (lines_of input.now)) }
+// A list for each pen, with nothing in it.
+fn no_lists(alloc: Global) -> Result<Vec<Vec<Bytes>>, AllocError>
+    ensures { IfOk result (λ dealt. map (λ bodies. bodies.items) dealt.items ≡ [] ∷ [] ∷ [] ∷ [] ∷ []) }
 {
-    let mut bodies = Vec::new(alloc);
-    let mut left = input;
-    let mut others = pen;
-    while let Some((line, rest)) = next_line(left) {
-        if others == 0 {
-            bodies.push(Bytes::copy_from_slice(alloc, line)?)?;
-            others = PENS;
-        }
-        others -= 1;
-        left = rest;
+    let mut dealt = Vec::new(alloc);
+    dealt.push(Vec::new(alloc))?;
+    dealt.push(Vec::new(alloc))?;
+    dealt.push(Vec::new(alloc))?;
+    dealt.push(Vec::new(alloc))?;
+    Ok(dealt)
+}
+
+// The pen whose turn it is after this one.
+fn next_pen(pen: usize) -> usize
+    requires { pen < PENS }
+    ensures { result ≡ (if pen + 1 == PENS then 0 else pen + 1) }
+{
+    if pen + 1 == usize::from(PENS) {
+        0
+    } else {
+        pen + 1
     }
-    Ok(bodies)
+}
+
+// Adds a body to the list of a pen.
+fn add_to(
+    alloc: Global,
+    dealt: &mut Vec<Vec<Bytes>>,
+    pen: usize,
+    line: &[u8],
+) -> Result<(), AllocError>
+    requires { pen < length dealt.old.items }
+    ensures { OnOk result (AddsTo pen line.now (map (λ bodies. bodies.items) dealt.old.items) (map (λ bodies. bodies.items) dealt.new.items)) }
+{
+    let body = Bytes::copy_from_slice(alloc, line)?;
+    let bodies = &mut dealt[pen];
+    bodies.push(body)?;
+    Ok(())
 }
 
 // The first line, and what stands behind its line end.
@@ -85,10 +94,5 @@ fn next_line(text: &[u8]) -> Option<(&[u8], &[u8])>
 fn line_end(text: &[u8]) -> usize
     ensures { IsLineEnd text.now result }
 {
-    for (place, byte) in text.iter().enumerate() {
-        if *byte == b'\n' {
-            return place;
-        }
-    }
-    text.len()
+    memchr(b'\n', text).unwrap_or(text.len())
 }

@@ -1,16 +1,19 @@
 //! Why a member isn't run, or not to its end.
 
 ghost use Rattle.std.specs.Prelude.{◌≡◌, ◌≤◌};
-ghost use Rattle.std.specs.List.{list_any};
+ghost use Rattle.std.specs.List.{list_all, list_any};
 ghost use Rattle.std.specs.IoError.{error_kind};
+ghost use Rattle.srm_names.specs.PageFeeds as spec;
 ghost use Rattle.srm_script.specs.declared.fault.ScriptFault.TheVariants.{Memory};
 ghost use Rattle.srm_script.specs.declared.status.TheConstants.{RAN_OUT};
 ghost use Rattle.srm_member.specs.declared.fault.MemberFault.TheVariants.{Script};
-ghost use Rattle.srm_member.specs.Statuses.{fault_of, fault_of_live, fault_of_bind, fault_of_binding, lacks_memory, status_of_member};
+ghost use Rattle.srm_member.specs.Statuses.{fault_of, fault_of_lists, fault_of_live, fault_of_bind, fault_of_binding, fault_of_key, lacks_memory, status_of_member};
+ghost use Rattle.srm_member.specs.TakenText.{has_close};
 
+use srm_guarded::KeyFileFault;
 use srm_names::PageMsg;
 use srm_node::{NodeFault, WorkEnd, Worked};
-use srm_script::{RAN_OUT, ScriptFault, WIRE_FAILED, print_fault};
+use srm_script::{FAILED, RAN_OUT, ScriptFault, WIRE_FAILED, print_fault};
 use srm_world::Past;
 use std::alloc::AllocError;
 use std::io;
@@ -18,25 +21,28 @@ use std::io::{ErrorKind, Write};
 use std::net::SocketAddr;
 use thiserror::Error;
 
-/// Why a member isn't run, or not to its end. Its text is the line that standard error gets.
+/// Why a member isn't run, or not to its end. Its text is the line that goes to standard error.
 #[derive(Debug, Drop, PartialEq, Eq, Error)]
 pub enum MemberFault {
-    /// As of a script: a stream that fails, an input that is refused, or want of memory.
+    /// As of a script: a stream fails, the input is refused, or memory ran out.
     #[error("{0}")]
     Script(ScriptFault),
-    /// The address can't be bound, or the socket failed.
+    /// The address can't be bound, or a call of the socket failed.
     #[error("srm: wire")]
     Wire,
-    /// Its address can't be bound, for this cause.
+    /// This address can't be bound, for this cause.
     #[error("srm: cannot bind {0}: {1}")]
     Binding(SocketAddr, ErrorKind),
-    /// The turns were spent.
+    /// All turns were spent before the run ended.
     #[error("srm: turns")]
     Turns,
+    /// Its key file can't be used.
+    #[error("{0}")]
+    Key(KeyFileFault),
 }
 
 impl MemberFault {
-    /// Why a run was no whole one, by its end and its workers. Want of memory, a worker's too, comes before all else.
+    /// Returns why a run wasn't whole, by its end and its workers; `None` if it was. Out of memory, a worker's too, comes before all else. Takes no memory.
     pub fn of_run<L: Past<PageMsg> + Drop>(
         end: Result<(), NodeFault>,
         worked: &[Worked<L>],
@@ -54,7 +60,24 @@ impl MemberFault {
         }
     }
 
-    /// Why a live run was no whole one, by why the run wasn't, and by what befell its streams. Want of memory comes first, and then the run.
+    /// Returns why a run wasn't whole, by its end, its workers and their lists; `None` if it was.
+    ///
+    /// It is the fault of [`of_run`](MemberFault::of_run), if there is one. Without one each list has its close, since nothing but want of memory ends a worker of such a run before: a list
+    /// that lacks it was cut short, and the fault is out of memory. Goes through the lists once, and takes no memory.
+    pub fn of_whole_run(end: Result<(), NodeFault>, worked: &[Worked]) -> Option<MemberFault>
+        ensures { result ≡ fault_of_lists (fault_of end (list_any lacks_memory worked.now)) (list_all has_close worked.now) }
+    {
+        if let Some(fault) = MemberFault::of_run(end, worked) {
+            return Some(fault);
+        }
+        if all_have_close(worked) {
+            None
+        } else {
+            Some(MemberFault::Script(ScriptFault::Memory))
+        }
+    }
+
+    /// Returns why a live run wasn't whole, by why the node's run wasn't and what befell its streams; `None` if it was. Out of memory comes first, then the node's run. Takes no memory.
     pub fn of_live(run: Option<MemberFault>, noted: Option<ScriptFault>) -> Option<MemberFault>
         ensures { result ≡ fault_of_live run noted }
     {
@@ -70,7 +93,7 @@ impl MemberFault {
         }
     }
 
-    /// Prints the fault on standard error, and answers the status that the program ends with.
+    /// Prints the fault to `err`, as a line, and returns the status that the program ends with: 1, 3 or 4. An `err` that fails changes nothing.
     pub fn print<E: Write>(&self, err: &mut E) -> u8
         ensures status { result ≡ status_of_member self.now }
         ensures greatest { result ≤ RAN_OUT }
@@ -79,10 +102,11 @@ impl MemberFault {
             MemberFault::Script(fault) => fault.print(err),
             MemberFault::Wire | MemberFault::Binding(..) => print_fault(self, err, WIRE_FAILED),
             MemberFault::Turns => print_fault(self, err, RAN_OUT),
+            MemberFault::Key(_) => print_fault(self, err, FAILED),
         }
     }
 
-    /// The fault where this address can't be bound, with the cause.
+    /// Returns the fault of an address that can't be bound, with its cause; out of memory is one by itself. Takes no memory.
     pub fn of_bind(address: SocketAddr, error: io::Error) -> MemberFault
         ensures { result ≡ fault_of_bind address (error_kind error) }
     {
@@ -92,7 +116,7 @@ impl MemberFault {
         }
     }
 
-    /// The fault of making a socket or a clock.
+    /// Returns the fault of a socket or a clock that can't be made: out of memory, or else `Wire`. Takes no memory.
     pub fn of_binding(error: io::Error) -> MemberFault
         ensures { result ≡ fault_of_binding (error_kind error) }
     {
@@ -111,6 +135,17 @@ impl From<ScriptFault> for MemberFault {
     }
 }
 
+impl From<KeyFileFault> for MemberFault {
+    ghost from_gives = { λ fault gives. gives ≡ fault_of_key fault };
+
+    fn from(fault: KeyFileFault) -> MemberFault {
+        match fault {
+            KeyFileFault::Memory => MemberFault::Script(ScriptFault::Memory),
+            _ => MemberFault::Key(fault),
+        }
+    }
+}
+
 impl From<AllocError> for MemberFault {
     ghost from_gives = { λ _ gives. gives ≡ Script Memory };
 
@@ -119,7 +154,7 @@ impl From<AllocError> for MemberFault {
     }
 }
 
-// Whether one of these workers ended for want of memory.
+// Whether one of these workers ran out of memory.
 fn any_lacks_memory<L: Past<PageMsg> + Drop>(worked: &[Worked<L>]) -> bool
     ensures { result ≡ list_any lacks_memory worked.now }
 {
@@ -130,4 +165,23 @@ fn ended_for_memory<L: Past<PageMsg> + Drop>(worked: &Worked<L>) -> bool
     ensures { result ≡ lacks_memory worked.now }
 {
     matches!(worked.end, WorkEnd::Memory)
+}
+
+// Whether the list of each worker has its close.
+fn all_have_close(worked: &[Worked]) -> bool
+    ensures { result ≡ list_all has_close worked.now }
+{
+    worked.iter().all(has_own_close)
+}
+
+fn has_own_close(worked: &Worked) -> bool
+    ensures { result ≡ has_close worked.now }
+{
+    worked.list.iter().any(is_close)
+}
+
+fn is_close(message: &PageMsg) -> bool
+    ensures { result ≡ spec.is_close message.now }
+{
+    matches!(message, PageMsg::Close)
 }

@@ -10,7 +10,7 @@ use srm_pages::ends::Well;
 use srm_pages::{Feed, Inked, settle};
 use std::collections::VecDeque;
 
-/// Puts pens that are done beside their well: what was received of each is a prefix of what it sent.
+/// Puts pens that are done beside their stroke queue: what it received of each is a prefix of what the pen sent. Changes nothing, and neither waits nor takes memory.
 pub fn join_pens(well: &mut Well, pens: Vec<Inked>)
     requires { AllByRecursion (λ p. p.well ≡ well.old.well) pens.items }
     ensures same { well.new ≡ well.old }
@@ -21,7 +21,7 @@ pub fn join_pens(well: &mut Well, pens: Vec<Inked>)
     }
 }
 
-/// Puts the two ends of each lane together, by slot: what was taken is a prefix of what was put.
+/// Puts the two ends of each lane together, by slot: what was taken is a prefix of what was put. Of more feeds than workers, or the other way round, the others are dropped.
 pub fn settle_lanes(feeds: Vec<Feed>, workers: Vec<Worked>)
     requires { AreEndsOfLanes feeds.items (map (λ w. w.tap) workers.items) }
     ensures { TakePrefixes feeds.items (map (λ w. w.tap) workers.items) }

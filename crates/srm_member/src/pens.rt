@@ -18,9 +18,11 @@ use std::thread::{Promise, PromisedHandle, Threads};
 use std::time::Duration;
 use std::{thread, time};
 
-/// How long a pen waits before it tries again, in microseconds. To yield alone would keep a processor busy for each pen, as long as the rate
-/// keeps strokes back.
-const WAIT: u64 = 1_000;
+/// How long a pen waits before it tries a full queue again, in microseconds: at first so long that a node which draws at full speed isn't kept waiting, then twice as long each
+/// time, up to the longest, so that a pen which the rate keeps back takes no processor.
+const FIRST_WAIT: u64 = 50;
+
+const LONGEST_WAIT: u64 = 6_400;
 
 /// A pen's promise: this pen sends a prefix of these bodies.
 #[derive(Drop)]
@@ -60,10 +62,10 @@ impl Model for PenThreads {
     ghost invariant = { λ t. (t.inked.items ≡ []) × (vec_len t.inked + length t.threads.items ≤ vec_capacity t.inked) };
 }
 
-/// What ends the pauses of the node's wire, if it has such.
+/// The handle that ends a pause of the node's wire; `None` if the wire has none.
 pub type Waking = Option<Arc<WireWaker, Global>>;
 
-/// The same for one more thread. None where there is none, or no memory for it: the node then wakes by itself, a few milliseconds later.
+/// Returns the handle for one more thread; `None` if there is none, or no memory for it. The node then wakes by itself, a few milliseconds later.
 pub fn share_waker(waker: &Waking) -> Waking {
     match waker {
         Some(waker) => Arc::try_clone(waker).ok(),
@@ -72,7 +74,7 @@ pub fn share_waker(waker: &Waking) -> Waking {
 }
 
 impl PenThreads {
-    /// No thread yet. Only want of memory refuses it.
+    /// Makes the threads; none is started. Fails only if out of memory.
     pub fn new(alloc: Global, waker: Waking) -> Result<PenThreads, AllocError>
         ensures { IfOk result (λ threads. threads ≡ []) }
     {
@@ -84,7 +86,7 @@ impl PenThreads {
         })
     }
 
-    /// Starts a thread for each pen, which draws the bodies at its place, until one can't be started. Whether all were.
+    /// Starts a thread for each pen, which draws the bodies at its place, until one can't be started. Returns whether all were.
     pub fn start<R: time::Clock + Threads + Wait + Copy + Send + 'static>(
         &mut self,
         rt: &R,
@@ -109,7 +111,7 @@ impl PenThreads {
         true
     }
 
-    /// Starts the thread of a pen, once there is a place for the pen when it is done. Whether it was started.
+    /// Starts the thread of a pen, once there is a place for the pen when it is done. Returns whether it did.
     fn start_one<R: time::Clock + Threads + Wait + Copy + Send + 'static>(
         &mut self,
         rt: &R,
@@ -139,7 +141,7 @@ impl PenThreads {
         }
     }
 
-    /// Tells the threads that the node has ended, waits for them, and gives the pens back, in their order.
+    /// Tells the threads that the node has ended, waits for them, and returns the pens, in their order.
     pub fn end<R: Threads>(self, rt: &R) -> Vec<Inked>
         ensures { PensDrew self result.items }
     {
@@ -154,7 +156,7 @@ impl PenThreads {
     }
 }
 
-/// Starts the thread of a pen. None where there is no thread for it.
+/// Starts the thread of a pen. `None` if none can be started.
 fn spawn_pen<R: time::Clock + Threads + Wait + Copy + Send + 'static>(
     rt: &R,
     pen: Pen,
@@ -209,7 +211,7 @@ fn put(inked: &mut Vec<Inked>, one: Inked)
     let _ = inked.push(one);
 }
 
-/// Draws these bodies on the first page, in order, until the node has ended. The pen is then done.
+/// Draws these bodies on the first page, in order, until the node has ended. Returns the pen, which is done.
 #[tactic(auto, using(crate::proofs::Strokes::drew_none, crate::proofs::Strokes::drew_more))]
 fn draw_all<R: time::Clock + Wait>(
     rt: &R,
@@ -232,8 +234,10 @@ fn draw_all<R: time::Clock + Wait>(
     inked
 }
 
-/// Sends a stroke with this body on the first page, and each millisecond again while it comes back from a full well, until the flag says that the node
-/// has ended. A node that pauses is woken for it. Whether it was sent.
+/// Sends a stroke with this body on page 0.0, and returns whether it was sent.
+///
+/// While the queue is full it tries again, after 50 microseconds at first and 6,400 at most, until the flag says that the node has ended; then nothing was sent. It wakes a node
+/// that pauses. Waits as long as the node's rate keeps strokes back.
 pub fn send_stroke<R: time::Clock + Wait>(
     rt: &R,
     pen: &mut Pen,
@@ -249,6 +253,7 @@ pub fn send_stroke<R: time::Clock + Wait>(
         page: Page::first(),
         body,
     };
+    let mut wait = FIRST_WAIT;
     for _ in rt.forever() {
         let Err(back) = pen.stroke(rt, stroke) else {
             wake(waker);
@@ -258,12 +263,13 @@ pub fn send_stroke<R: time::Clock + Wait>(
             return false;
         }
         stroke = back;
-        thread::sleep(rt, Duration::from_micros(WAIT));
+        thread::sleep(rt, Duration::from_micros(wait));
+        wait = wait.saturating_mul(2).min(LONGEST_WAIT);
     }
     unreachable!()
 }
 
-/// Ends the node's pause, if its wire has what ends it.
+/// Ends the node's pause, if its wire has a handle for it. Takes no memory.
 pub fn wake(waker: &Waking) {
     if let Some(waker) = waker {
         waker.wake();

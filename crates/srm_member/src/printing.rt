@@ -16,8 +16,9 @@ use std::io::{ErrorKind, Write};
 /// How many bytes are gathered before they are written.
 const GATHERED: usize = 8_192;
 
-/// Prints what the worker of each slot took, in order, and that the member is gone. Refused is an output that can't be written, behind a front of
-/// these lines, and, before anything is, want of memory.
+/// Prints what the worker of each slot took, in order, and that the member is gone.
+///
+/// Fails with `Memory` before anything is printed, and with `Output` where the output can't be written, behind a prefix of these lines.
 #[tactic(auto, using(crate::proofs::Gathered::front_of_none))]
 pub fn print_taken<O: Write>(
     alloc: Global,

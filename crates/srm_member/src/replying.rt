@@ -6,8 +6,9 @@ use srm_options::Reply;
 use srm_script::{ScriptFault, WRONG_USAGE};
 use std::io::Write;
 
-/// Prints what a command line gets in place of being done: what it asks for to `out`, what is wrong in it to `err`. Answers the program's
-/// status.
+/// Prints what a command line gets in place of being done: the help or version that it asks for to `out`, what is wrong in it to `err`.
+///
+/// Returns the program's status: 0 where what was asked for is printed, 1 or 4 where `out` fails, 2 for a wrong command line, 4 for out of memory.
 pub fn print_reply<O: Write, E: Write>(reply: &Reply, out: &mut O, err: &mut E) -> u8
     ensures { StatusOf reply.now result }
 {

@@ -18,6 +18,7 @@ use crate::printing::print_taken;
 use crate::station::{Ran, Station};
 use bytes::Bytes;
 use srm_agent::Entry;
+use srm_guarded::read_key;
 use srm_node::{Hosted, Wire};
 use srm_options::NodeOptions;
 use srm_script::read_input;
@@ -25,15 +26,15 @@ use srm_world::Past;
 use std::alloc::Global;
 use std::io::{Read, Write};
 use std::net::Net;
+use std::rt::Files;
 use std::sync::Wait;
 use std::thread::Threads;
 use std::time;
 
-/// Runs a member with these options, draws the lines of the input, and prints what its page workers took. It keeps no journal, since nobody reads one. A fault goes to
-/// `err`, and then nothing else is printed, but where the output fails.
+/// Runs a member with these options, draws the lines of the input, and prints what its page workers took.
 ///
-/// Answers the program's status: 0; 1 for an input that is refused or a stream that fails; 3 where the socket
-/// fails; 4 for want of memory, a worker's too, or where all turns were spent.
+/// Returns the program's status: 0; 1 if the key can't be used, the input is refused or a stream fails; 3 if the socket fails; 4 if memory ran out, a worker's too, or all turns were spent. The fault goes to `err`;
+/// nothing else is printed then, unless the output failed. The node keeps no journal, since nobody reads one.
 pub fn run_node<R, I: Read, O: Write, E: Write>(
     rt: &R,
     options: NodeOptions,
@@ -42,7 +43,7 @@ pub fn run_node<R, I: Read, O: Write, E: Write>(
     err: &mut E,
 ) -> u8
 where
-    R: Net + time::Clock + Threads + Wait + AllocGlobal + Copy + Send + Drop + 'static,
+    R: Net + Files + time::Clock + Threads + Wait + AllocGlobal + Copy + Send + Drop + 'static,
     ensures ends { IsStatus result }
     ensures greatest { result ≤ RAN_OUT }
 {
@@ -61,21 +62,22 @@ fn run<R, I: Read, O: Write>(
     out: &mut O,
 ) -> Result<(), MemberFault>
 where
-    R: Net + time::Clock + Threads + Wait + Copy + Send + Drop + 'static,
+    R: Net + Files + time::Clock + Threads + Wait + Copy + Send + Drop + 'static,
 {
+    let key = read_key(rt, alloc, &options.guard)?;
     let input = read_input(alloc, reader)?;
     let dealt = deal(alloc, input.as_slice())?;
     drop(input);
     let turns = options.turns;
-    let station = Station::bind(rt, alloc, options)?;
+    let station = Station::bind(rt, alloc, options, key)?;
     run_station(rt, alloc, station, dealt, turns, out)
 }
 
-/// Runs a new station to its end, its k-th pen drawing the k-th list of bodies, and prints what its page workers took. Refused is what
-/// [`Station::run`] refuses, what ends a run, and an output that can't be written; nothing is printed before the run was whole.
+/// Runs a new station to its end, its k-th pen drawing the k-th list of bodies, and prints what its page workers took.
 ///
-/// What was printed as taken in a slot is a prefix of what the node's journal gave there, and of each pen the strokes that the journal drew are a prefix of its
-/// bodies, in order.
+/// `turns` is how many turns the node has. Returns what [`Station::run`] refuses, what ended the run ([`MemberFault::of_whole_run`]), or `Output` where the output
+/// can't be written, behind a prefix of the text. Nothing is printed unless the run was whole: then what is printed as taken in a slot is all that the node's journal gave there,
+/// to its close, and of each pen the strokes that the journal drew are a prefix of its bodies, in order.
 pub fn run_station<R, X, P, O>(
     rt: &R,
     alloc: Global,
@@ -104,7 +106,7 @@ where
         worked,
         end,
     } = hosted;
-    match MemberFault::of_run(end, worked.as_slice()) {
+    match MemberFault::of_whole_run(end, worked.as_slice()) {
         Some(fault) => Err(fault),
         None => {
             print_taken(alloc, out, journal.start().config.me(), worked.as_slice())?;

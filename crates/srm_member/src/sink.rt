@@ -21,7 +21,7 @@ impl PageSink for Unseen {
     }
 }
 
-/// One for each slot. Only want of memory refuses it.
+/// One for each slot. Fails only if out of memory.
 pub fn sinks(alloc: Global) -> Result<Vec<Unseen>, AllocError>
     ensures { IfOk result (λ sinks. vec_len sinks ≡ PAGES) }
 {

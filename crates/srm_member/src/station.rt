@@ -8,6 +8,7 @@ ghost use Rattle.std.specs.IoError.{error_kind};
 ghost use Rattle.srm_node.specs.Calls.{calls_of};
 ghost use Rattle.srm_node.specs.Hosting.{kinds_of, starts_of, Hosts, HostsWith, HostFails, HostFailsWith, SameWell, AreEndsOfLanes};
 ghost use Rattle.srm_udp.specs.Clocks.{NeverFalls};
+ghost use Rattle.srm_guarded.specs.Guarding.{guarded_wire};
 ghost use Rattle.srm_member.specs.Sinks.{NeverStops};
 ghost use Rattle.srm_member.specs.declared.sink.Unseen.{Unseen};
 ghost use Rattle.srm_timers.specs.Seeds.{words_of};
@@ -20,6 +21,8 @@ use crate::pens::{PenThreads, Waking, share_waker};
 use crate::sink::{Unseen, sinks};
 use bytes::Bytes;
 use srm_agent::{Config, Entry};
+use srm_guard::{Guard, Key};
+use srm_guarded::{Guarded, Published, bind_guarded};
 use srm_names::PageMsg;
 use srm_node::{Hosted, Node, PageSink, host_with_well};
 use srm_options::NodeOptions;
@@ -36,8 +39,8 @@ use std::sync::Wait;
 use std::thread::Threads;
 use std::{io, time};
 
-/// A member's station: its node over a wire, UDP if none is named, and the system's clock, the taps for its page workers, and its pens. The node keeps
-/// its entries unless another past is named.
+/// A member's station: its node over a wire, UDP unless another is named, and the system's clock, the taps of its page workers, and its pens. The node keeps
+/// its entries unless another history is named.
 #[derive(Drop)]
 pub struct Station<
     R: time::Clock + Drop,
@@ -47,21 +50,23 @@ pub struct Station<
     pub node: Node<Pcg, X, SystemClock<R>, P>,
     pub taps: Vec<Tap>,
     pub pens: Vec<Pen>,
-    /// What ends the pauses of the node's wire, for who puts a stroke into its well; None where the wire has no such.
+    /// The handle that ends a pause of the node's wire, for whoever puts a stroke into its queue; `None` if the wire has none.
     pub waker: Waking,
 }
 
-impl<R: time::Clock + Copy + Drop> Station<R, UdpWire, Forgotten<Entry>> {
-    /// The station of a member that is bound to its own address, which keeps no entry. The node leaves as its options say. Refused is what can't be bound, with the cause where the options ask
-    /// for it, and want of memory.
+impl<R: time::Clock + Copy + Drop> Station<R, Guard<UdpWire>, Published<Forgotten<Entry>>> {
+    /// Binds a member to its own address, with the guard that its options ask for. Its node keeps no entry, and leaves as its options say.
+    ///
+    /// Fails with `Wire` if the address can't be bound, with `Binding` and the cause if the options ask for it (`verbose`), and if out of memory.
     pub fn bind(
         rt: &R,
         alloc: Global,
         options: NodeOptions,
-    ) -> Result<Station<R, UdpWire, Forgotten<Entry>>, MemberFault>
+        key: Option<Key>,
+    ) -> Result<Station<R, Guard<UdpWire>, Published<Forgotten<Entry>>>, MemberFault>
     where
         R: Net,
-        ensures new { IfOk result (λ s. IsNewStation options.config options.stay None s.node.view.wire s.node.view s.taps.items s.pens.items) }
+        ensures new { IfOk result (λ s. IsNewStation options.config options.stay None (guarded_wire options.addresses.items options.guard key) s.node.view s.taps.items s.pens.items) }
         ensures words { IfOk result (λ s. s.node.words ≡ words_of options.seed) }
     {
         let NodeOptions {
@@ -69,6 +74,7 @@ impl<R: time::Clock + Copy + Drop> Station<R, UdpWire, Forgotten<Entry>> {
             seed,
             stay,
             verbose,
+            guard,
             addresses,
             ..
         } = options;
@@ -78,10 +84,9 @@ impl<R: time::Clock + Copy + Drop> Station<R, UdpWire, Forgotten<Entry>> {
         } else {
             None
         };
-        match UdpWire::bind(rt, alloc, me, addresses) {
-            Ok(wire) => {
-                let waker = wire.waker().ok();
-                let past = Forgotten::new();
+        match bind_guarded(rt, alloc, config, &guard, key, addresses) {
+            Ok(Guarded { wire, waker, known }) => {
+                let past = Published::new(alloc, Forgotten::new(), known);
                 Station::make(rt, alloc, config, seed, stay, wire, waker, past)
             }
             Err(error) => Err(binding_fault(told, error)),
@@ -100,8 +105,10 @@ fn binding_fault(told: Option<SocketAddr>, error: io::Error) -> MemberFault
 }
 
 impl<R: time::Clock + Copy + Drop, X: Wire + Drop> Station<R, X> {
-    /// The station of a member over a wire that was made before and that no call failed of: one of the member that the options say, in their roster. The options' addresses and
-    /// turns aren't asked for. Refused is what the clock refuses, and want of memory.
+    /// Makes the station of a member over a wire of the caller's, no call of which failed: one of the member that the options name, in their roster. The options' addresses and
+    /// turns aren't used.
+    ///
+    /// Fails with `Wire` if the clock can't be read, and if out of memory.
     pub fn over(
         rt: &R,
         alloc: Global,
@@ -118,9 +125,11 @@ impl<R: time::Clock + Copy + Drop, X: Wire + Drop> Station<R, X> {
 }
 
 impl<R: time::Clock + Copy + Drop, X: Wire + Drop, P: Past<Entry> + Drop> Station<R, X, P> {
-    /// Runs the node in this thread, and its page workers and its pens, in threads of their own, until all have ended. The k-th pen draws the k-th list of bodies; more lists than
-    /// pens are left out. Want of memory is answered for fewer lists than pens too, and where there is no thread for a pen; nothing else refuses it. The type that the caller names for the workers' lists says how they are kept,
-    /// as with [`host`].
+    /// Runs the node in this thread, and its page workers and its pens in threads of their own, until all have ended. The k-th pen draws the k-th list of bodies; more lists than
+    /// pens are left out.
+    ///
+    /// `turns` is how many turns the node has. Returns what became of the node and its workers, also after a fault of the run. Fails with out of memory, before anything was drawn: so it does for fewer lists than
+    /// pens, and if a pen's thread can't be started. The type that the caller names for the workers' lists says how they are kept, as with [`host`](srm_node::host).
     pub fn run<L: Past<PageMsg> + Send + Drop + 'static>(
         self,
         rt: &R,
@@ -139,7 +148,7 @@ impl<R: time::Clock + Copy + Drop, X: Wire + Drop, P: Past<Entry> + Drop> Statio
         Ok(ran.hosted)
     }
 
-    /// The same, and hands back the node's well and the pens too, which sent a prefix of what was dealt to each.
+    /// The same as [`run`](Station::run), and returns the node's stroke queue and the pens too, each of which sent a prefix of its bodies.
     pub fn run_whole<L: Past<PageMsg> + Send + Drop + 'static>(
         self,
         rt: &R,
@@ -200,7 +209,7 @@ impl<R: time::Clock + Copy + Drop, X: Wire + Drop, P: Past<Entry> + Drop> Statio
     }
 }
 
-/// What became of a station's run: its node with its workers, the node's well, and its pens, which are done.
+/// What became of a station's run: its node with its workers, the node's stroke queue, and its pens, which are done.
 #[derive(Drop)]
 pub struct Ran<P: Past<Entry> + Drop = Vec<Entry>, L: Past<PageMsg> + Drop = Vec<PageMsg>> {
     pub hosted: Hosted<P, L>,
@@ -209,7 +218,7 @@ pub struct Ran<P: Past<Entry> + Drop = Vec<Entry>, L: Past<PageMsg> + Drop = Vec
 }
 
 impl<R: time::Clock + Copy + Drop, X: Wire + Drop, P: Past<Entry> + Drop> Station<R, X, P> {
-    /// The same as [`over`](Station::over), of a node with a past of the caller's, which has no entry yet, and with what ends the pauses of its wire.
+    /// The same as [`over`](Station::over), with a history of the caller's, which has no entry yet, and with the handle that ends a pause of the wire.
     pub fn with_past(
         rt: &R,
         alloc: Global,
@@ -280,7 +289,7 @@ struct Parts<R: time::Clock + Drop> {
     pens: Vec<Pen>,
 }
 
-/// The clock and the ends of a station that did nothing yet. Refused is what the clock refuses, and want of memory.
+/// The clock and the ends of a station that did nothing yet. Fails if the clock can't be read or memory ran out.
 fn make_parts<R: time::Clock + Copy + Drop>(rt: &R, alloc: Global) -> Result<Parts<R>, MemberFault>
     ensures feeds { IfOk result (λ e. AreNewFeeds e.feeds.items) }
     ensures taps { IfOk result (λ e. length e.taps.items ≡ PAGES) }
@@ -312,7 +321,7 @@ struct Crew {
 }
 
 impl Crew {
-    /// No thread is started yet. Only want of memory refuses it.
+    /// No thread is started yet. Fails only if out of memory.
     fn new(alloc: Global, waker: Waking) -> Result<Crew, AllocError>
         ensures sinks { IfOk result (λ crew. vec_len crew.sinks ≡ PAGES) }
         ensures threads { IfOk result (λ crew. crew.threads ≡ []) }
@@ -324,8 +333,8 @@ impl Crew {
     }
 }
 
-/// Runs the node with its workers, if each thread that draws for it was started, and hands its well back too. Else, and for want of memory before any worker is
-/// started, there is none.
+/// Runs the node with its workers if `started`, that is if each thread that draws for it was started, and returns its stroke queue too. Returns `None` if not, and if memory ran out before any worker was
+/// started.
 pub fn host_if<R, X, P, S, L>(
     rt: &R,
     alloc: Global,
@@ -358,7 +367,7 @@ where
     }
 }
 
-/// The ends of a lane for each slot. Only want of memory refuses it.
+/// The ends of a lane for each slot. Fails only if out of memory.
 fn slots(alloc: Global) -> Result<(Vec<Feed>, Vec<Tap>), AllocError>
     ensures feeds { IfOk result (λ e. AreNewFeeds e.0.items) }
     ensures taps { IfOk result (λ e. vec_len e.1 ≡ PAGES) }

@@ -45,16 +45,17 @@ leaves; so it does at /leave, where its output is closed, and at a signal (INT, 
 HUP) where ./srm started it; a second signal ends it at once. Standard error tells
 who of the others is here, was silent for 10 seconds or left, that the member was in
 the session before under its number, why its address can't be bound, and at the end
-who was not heard leaving, of which streams drawops are missing, and how many
-datagrams the network refused to take, by cause. On a terminal the title of the
-window shows each second how many of the others were heard, how many drawops are
-missing, how many datagrams came and were sent, how many of those sent were requests
-and repairs, and how many the network refused.
+who was not heard leaving, of which streams drawops are missing, how many datagrams
+the network refused to take, and how many came and were dropped, by cause. On a
+terminal the title of the window shows each second how many of the others were heard,
+how many drawops are missing, how many datagrams came and were sent, how many of those
+sent were requests and repairs, and how many the network refused.
 
 Status: 0; 1 for a line that is too long or an input of more than 1000000 bytes,
-but not with --live, or for a stream that fails; 2 for a wrong command line; 3
-where the socket fails; 4 for want of memory, or where all turns were spent; 5 with
---live, where all went well but the member was in the session before.";
+but not with --live, for a stream that fails, or for a key that can't be used; 2
+for a wrong command line; 3 where the socket fails; 4 for want of memory, or where
+all turns were spent; 5 with --live, where all went well but the member was in the
+session before.";
 
 /// What `srm world --help` prints.
 pub const WORLD_HELP: &str = "usage: srm world < SCRIPT

@@ -7,11 +7,12 @@
 //! }
 //! ```
 //!
-//! **What is refused.** Whatever isn't a command line of `srm world`, `srm picture` or `srm node` gets a [`Reply`]: the help or the version where it asks for
-//! one, what is wrong in it, or that memory ran out.
+//! **Failures.** Arguments that aren't a command line of `srm world`, `srm picture` or `srm node` get a [`Reply`]: the help or the version if they ask for it, what is wrong in them, or
+//! that memory ran out.
 #![tactic(auto)]
 
 mod apart;
+mod guard_options;
 mod help;
 mod live_defaults;
 mod mistake;
@@ -21,6 +22,7 @@ mod picture;
 mod reply;
 mod world;
 
+pub use guard_options::{GuardOptions, MOST_MISSING};
 pub use node::read_node;
 pub use node_options::NodeOptions;
 pub use picture::read_picture;

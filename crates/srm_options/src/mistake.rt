@@ -21,6 +21,8 @@ pub enum Mistake<'a> {
     Time(&'a str, &'a str, u64, u64),
     #[error("'--linger <U>' is for '--live' alone")]
     Linger,
+    #[error("'--only-roster' and '--any-origin' don't go together: leave one out")]
+    Origins,
     #[error("an option is missing or out of its range")]
     Range,
     #[error("out of memory")]

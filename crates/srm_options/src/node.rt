@@ -4,6 +4,7 @@ ghost use Rattle.std.specs.Prelude.{IfOk};
 ghost use Rattle.srm_options.specs.Options.{AreInRange};
 
 use crate::apart::is_first_apart;
+use crate::guard_options::{guard_in, with_guard};
 use crate::help::{NODE, NODE_MORE};
 use crate::live_defaults::{LIVE_LINGER, live_settings};
 use crate::mistake::Mistake;
@@ -24,7 +25,7 @@ const STAY: u64 = 5_000_000;
 /// Without `--turns` it turns so often, at most.
 const TURNS: u64 = 1_000_000;
 
-/// Reads the arguments behind `srm node`.
+/// Reads the arguments behind `srm node`. Returns options in their ranges, or a [`Reply`]: the help if they ask for it, what is wrong in them, or that memory ran out.
 pub fn read_node<'a>(alloc: Global, arguments: &'a [&'a str]) -> Result<NodeOptions, Reply>
     ensures { IfOk result AreInRange }
 {
@@ -46,7 +47,7 @@ fn is_live(arguments: &[&str]) -> bool {
     arguments.iter().any(|word| *word == "--live")
 }
 
-/// The command, for its own words and for the help on all commands. A live member's takes times in seconds too.
+/// Makes the command, for its own arguments and for the help on all commands. A live member's takes times in seconds too.
 pub(crate) fn node_command<'a>(alloc: Global, live: bool) -> Result<Command<'a>, AllocError> {
     let command = Command::new(alloc, "node")
         .bin_name("srm node")?
@@ -54,11 +55,11 @@ pub(crate) fn node_command<'a>(alloc: Global, live: bool) -> Result<Command<'a>,
         .about(NODE)
         .after_help(NODE_MORE);
     let command = with_limits(alloc, with_member(alloc, command)?, live)?;
-    with_addresses(alloc, command)
+    with_addresses(alloc, with_guard(alloc, command)?)
 }
 
 /// An option with a value.
-fn option<'a>(alloc: Global, name: &'a str, value: &'a str, help: &'a str) -> Arg<'a> {
+pub(crate) fn option<'a>(alloc: Global, name: &'a str, value: &'a str, help: &'a str) -> Arg<'a> {
     Arg::new(alloc, name)
         .long(name)
         .value_name(value)
@@ -175,7 +176,7 @@ fn with_limits<'a>(
 }
 
 /// An option without a value.
-fn flag<'a>(alloc: Global, name: &'a str, help: &'a str) -> Arg<'a> {
+pub(crate) fn flag<'a>(alloc: Global, name: &'a str, help: &'a str) -> Arg<'a> {
     Arg::new(alloc, name)
         .long(name)
         .help(help)
@@ -217,6 +218,7 @@ fn options_in<'a>(alloc: Global, matches: &ArgMatches<'a>) -> Result<NodeOptions
         turns: matches.get_one::<u64>("turns").unwrap_or(turns),
         live,
         verbose: matches.get_flag("verbose"),
+        guard: guard_in(alloc, matches, live)?,
         addresses,
     })
 }

@@ -3,42 +3,45 @@
 ghost use Rattle.std.specs.Prelude.{◌↔◌, IsTrue};
 ghost use Rattle.srm_options.specs.Options.{AreInRange};
 
+use crate::guard_options::GuardOptions;
 use srm_entries::Config;
 use srm_names::LATEST_MOMENT;
 use std::net::SocketAddr;
 
-/// A member lingers for so many microseconds, at most.
+/// The most microseconds that a member lingers.
 pub const LONGEST_LINGER: u64 = 30_000_000;
 
 /// What a command line of `srm node` says.
 #[derive(Debug, Drop)]
 pub struct NodeOptions {
-    /// The member, which is the place of its address, from 0; its session; and what it may send and how long it waits.
+    /// The member, which is the place of its address, from 0; its session; its rate, depth and waits.
     pub config: Config,
-    /// The seed of the words by which its waits are chosen.
+    /// The seed of the random numbers that choose its waits.
     pub seed: u64,
-    /// After so many microseconds it leaves, up to 2^48; where strokes are drawn as they are typed, so long after the end of input.
+    /// The microseconds after which it leaves, up to 2^48: since its start, or since the end of its input if it is live.
     pub stay: u64,
-    /// Where strokes are drawn as they are typed: it doesn't leave before nobody asked for what it holds for so many microseconds, up to 30,000,000; 0 where it leaves
-    /// all the same.
+    /// The microseconds, up to 30,000,000, for which nobody may have asked for what it holds before it leaves; 0 if it leaves anyway.
     pub linger: u64,
-    /// It turns so often, at most.
+    /// How often it turns at most.
     pub turns: u64,
-    /// Whether strokes are drawn as they are typed, and what is taken is printed as it is.
+    /// Whether it is live: it draws each line as it is typed, and prints each message as it is taken.
     pub live: bool,
-    /// Whether it is told why the member's address can't be bound.
+    /// Whether it tells why its address can't be bound.
     pub verbose: bool,
+    /// Which datagrams the member drops.
+    pub guard: GuardOptions,
     /// The members' addresses by number, one a member.
     pub addresses: Vec<SocketAddr>,
 }
 
 impl NodeOptions {
-    /// Whether each member has an address and nobody else has, and the member leaves in time and doesn't linger for longer than it may.
+    /// Returns whether each member has an address and nobody else has, the member leaves in time and lingers no longer than it may, and its guard is in its range.
     pub fn is_in_range(&self) -> bool
         ensures { IsTrue result ↔ AreInRange self.now }
     {
         self.addresses.len() == usize::from(self.config.members())
             && self.stay <= LATEST_MOMENT
             && self.linger <= LONGEST_LINGER
+            && self.guard.is_in_range()
     }
 }

@@ -5,14 +5,14 @@ use crate::reply::Reply;
 use clap::Command;
 use std::alloc::{AllocError, Global};
 
-/// Reads the arguments behind `srm picture`, which takes none: Ok where there are none.
+/// Reads the arguments behind `srm picture`, which takes none. Fails with a [`Reply`] if there are any, or if out of memory.
 pub fn read_picture<'a>(alloc: Global, arguments: &'a [&'a str]) -> Result<(), Reply> {
     let mut command = picture_command(alloc)?;
     command.try_get_matches_from_mut(arguments)?;
     Ok(())
 }
 
-/// The command, for its own words and for the help on all commands.
+/// Makes the command, for its own arguments and for the help on all commands.
 pub(crate) fn picture_command<'a>(alloc: Global) -> Result<Command<'a>, AllocError> {
     let command = Command::new(alloc, "picture")
         .bin_name("srm picture")?

@@ -8,7 +8,7 @@ use std::fmt;
 /// What a command line gets in place of being done.
 #[derive(Debug, Drop)]
 pub enum Reply {
-    /// The help or the version, that it asks for.
+    /// The help or the version, which it asks for.
     Help(Text),
     /// What is wrong in it.
     Wrong(Text),

@@ -11,11 +11,12 @@ use std::alloc::{AllocError, Global};
 /// What a command line of `srm world` says.
 #[derive(Clone, Copy, Debug, PartialEq, Eq)]
 pub struct WorldOptions {
-    /// Whether the script may have lines that not every script may have.
+    /// Whether the script may have the lines of `--extended`.
     pub extended: bool,
 }
 
-/// Reads the arguments behind `srm`, of which the first isn't `node` or `picture`: Ok where they ask for `srm world`.
+/// Reads the arguments behind `srm`, if the first is neither `node` nor `picture`. Returns options if they ask for `srm world`, or a [`Reply`]: the help or the version if they ask for it, what is
+/// wrong in them, or that memory ran out.
 pub fn read_world<'a>(alloc: Global, arguments: &'a [&'a str]) -> Result<WorldOptions, Reply> {
     let mut command = srm_command(alloc)?;
     let matches = command.try_get_matches_from_mut(arguments)?;

@@ -1,6 +1,7 @@
 //! What ends a run, and with which text and status.
 
 use srm_member::MemberFault;
+use srm_names::{Page, PageMsg};
 use srm_node::{NodeFault, WorkEnd, Worked};
 use srm_pages::lanes;
 use srm_script::ScriptFault;
@@ -50,6 +51,36 @@ fn want_of_memory_comes_before_all_else(rt: HostRuntime) -> Result<(), Fail> {
     ] {
         assert_ends(&rt, end, of_worker, text, status)?;
     }
+    Ok(())
+}
+
+/// A worker that ended with Closed, having taken these.
+fn worker_that_took(alloc: Global, list: Vec<PageMsg>) -> Result<Vec<Worked>, AllocError> {
+    let mut worked = Vec::new(alloc);
+    if let Some(tap) = lanes(alloc, 0)?.taps.pop() {
+        let end = WorkEnd::Closed;
+        worked.push(Worked { tap, list, end })?;
+    }
+    Ok(worked)
+}
+
+// Each worker of a whole run takes the close last. A list that lacks it was cut short.
+#[test]
+fn a_list_without_its_close_has_status_4(rt: HostRuntime) -> Result<(), Fail> {
+    let alloc = rt.alloc();
+    let whole = worker_that_took(
+        alloc,
+        vec![in alloc; PageMsg::Open(Page::first()), PageMsg::Close]?,
+    )?;
+    let cut = worker_that_took(alloc, vec![in alloc; PageMsg::Open(Page::first())]?)?;
+    let memory = Some(MemberFault::Script(ScriptFault::Memory));
+    assert_eq!(rt; MemberFault::of_whole_run(Ok(()), whole.as_slice()), None);
+    assert_eq!(rt; MemberFault::of_whole_run(Ok(()), cut.as_slice()), memory);
+    let turns = Some(MemberFault::Turns);
+    assert_eq!(rt;
+        MemberFault::of_whole_run(Err(NodeFault::Turns), cut.as_slice()),
+        turns
+    );
     Ok(())
 }
 

@@ -5,6 +5,7 @@ use srm_rig::Ran;
 use std::alloc::{AllocError, Global};
 use std::net::Net;
 use std::process::Abort;
+use std::rt::Files;
 use std::sync::Wait;
 use std::test::Fail;
 use std::thread;
@@ -59,7 +60,7 @@ fn unnumbered(alloc: Global, strokes: &[&str]) -> Result<String, AllocError> {
 /// Runs a member that owns its command line and its input.
 fn run_owned<R>(rt: &R, line: String, input: Vec<u8>) -> Result<Ran, AllocError>
 where
-    R: Net + Clock + Threads + Wait + AllocGlobal + Copy + Send + Drop + 'static,
+    R: Net + Files + Clock + Threads + Wait + AllocGlobal + Copy + Send + Drop + 'static,
 {
     run(rt, line.as_str(), input.as_slice())
 }

@@ -15,6 +15,8 @@ mod ends;
 #[cfg(test)]
 mod example;
 #[cfg(test)]
+mod guarding;
+#[cfg(test)]
 mod judging;
 #[cfg(test)]
 mod lingering;

@@ -9,6 +9,7 @@ use srm_options::read_node;
 use srm_rig::datagrams::request;
 use std::alloc::{AllocError, Global};
 use std::net::{Net, SocketAddr};
+use std::rt::Files;
 use std::sync::Wait;
 use std::test::Fail;
 use std::thread;
@@ -116,7 +117,7 @@ impl<R: Clock + Wait + Drop> Asker<R> {
 /// Runs a live member with one stroke beside one that asks for it. Its status, and what the other heard.
 fn run_beside<R>(rt: &R, linger: u64) -> Result<(u8, Option<Heard>), Fail>
 where
-    R: Net + Clock + Threads + Wait + AllocGlobal + Copy + Send + Drop + 'static,
+    R: Net + Files + Clock + Threads + Wait + AllocGlobal + Copy + Send + Drop + 'static,
 {
     let alloc = rt.alloc();
     let (own, to) = bound(rt)?;

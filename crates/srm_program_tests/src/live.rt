@@ -3,6 +3,7 @@
 use crate::lives::*;
 use std::net::Net;
 use std::process::Abort;
+use std::rt::Files;
 use std::sync::Wait;
 use std::test::Fail;
 use std::thread::Threads;
@@ -133,7 +134,7 @@ fn spent_turns_keep_what_was_printed_while_nobody_types(rt: HostRuntime) -> Resu
 /// A member stays for 300,000 microseconds, and not for so many turns that they take five seconds, and ends with this status and text.
 fn assert_stays<R>(rt: &R, last: Last, room: usize, status: u8, err: &str) -> Result<(), Fail>
 where
-    R: Net + Clock + Threads + Wait + AllocGlobal + Abort + Copy + Send + Drop + 'static,
+    R: Net + Files + Clock + Threads + Wait + AllocGlobal + Abort + Copy + Send + Drop + 'static,
 {
     let given = Given {
         words: "--me 0 --stay 300000 --turns 400",
@@ -182,7 +183,7 @@ fn what_was_lost_is_told_at_the_end(rt: HostRuntime) -> Result<(), Fail> {
 /// A member whose input fails at once ends with this text, and wasn't whole.
 fn assert_lacks_wire<R>(rt: &R, words: &'static str, text: &str) -> Result<(), Fail>
 where
-    R: Net + Clock + Threads + Wait + AllocGlobal + Abort + Copy + Send + Drop + 'static,
+    R: Net + Files + Clock + Threads + Wait + AllocGlobal + Abort + Copy + Send + Drop + 'static,
 {
     let given = Given {
         words,

@@ -6,6 +6,7 @@ use std::alloc::{AllocError, Global};
 use std::io::{ErrorKind, IsTerminal, Read, Write};
 use std::net::Net;
 use std::process::Abort;
+use std::rt::Files;
 use std::sync::{Arc, Mutex, Wait};
 use std::test::Fail;
 use std::thread::Threads;
@@ -200,7 +201,7 @@ pub(crate) const GIVEN: Given = Given {
 /// Runs a live member by itself. Its status, and what it wrote on both streams.
 pub(crate) fn run<R>(rt: &R, given: Given) -> Result<(u8, Written, Written), Fail>
 where
-    R: Net + Clock + Threads + Wait + AllocGlobal + Copy + Send + Drop + 'static,
+    R: Net + Files + Clock + Threads + Wait + AllocGlobal + Copy + Send + Drop + 'static,
 {
     let alloc = rt.alloc();
     let port = free_port(rt)?;
@@ -284,7 +285,7 @@ pub(crate) fn assert_lives<R>(
     err: &str,
 ) -> Result<(), Fail>
 where
-    R: Net + Clock + Threads + Wait + AllocGlobal + Abort + Copy + Send + Drop + 'static,
+    R: Net + Files + Clock + Threads + Wait + AllocGlobal + Abort + Copy + Send + Drop + 'static,
 {
     let (told, out, on_err) = run(rt, given)?;
     assert_written(rt, &on_err, err);

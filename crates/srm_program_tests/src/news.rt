@@ -10,6 +10,7 @@ use std::io;
 use std::io::{ErrorKind, Read};
 use std::net::{Net, SocketAddr};
 use std::process::Abort;
+use std::rt::Files;
 use std::sync::{Arc, Wait};
 use std::test::Fail;
 use std::thread::Threads;
@@ -108,7 +109,7 @@ impl<R: Wait + Drop> Read for Acting<R> {
 /// Runs member 1 of three beside a member 0 that acts so, and one that is silent. Its status, and what it told.
 fn run_acts<R>(rt: &R, acts: &'static [Act]) -> Result<(u8, Written), Fail>
 where
-    R: Net + Clock + Threads + Wait + AllocGlobal + Copy + Send + Drop + 'static,
+    R: Net + Files + Clock + Threads + Wait + AllocGlobal + Copy + Send + Drop + 'static,
 {
     let alloc = rt.alloc();
     let (socket, first) = bound(rt)?;
@@ -136,7 +137,7 @@ where
 /// A member that is beside these acts ends with this status, and told each of these lines once and no other.
 fn assert_tells<R>(rt: &R, acts: &'static [Act], status: u8, lines: &[&str]) -> Result<(), Fail>
 where
-    R: Net + Clock + Threads + Wait + AllocGlobal + Abort + Copy + Send + Drop + 'static,
+    R: Net + Files + Clock + Threads + Wait + AllocGlobal + Abort + Copy + Send + Drop + 'static,
 {
     let (ended, err) = run_acts(rt, acts)?;
     assert_eq!(rt; ended, status);

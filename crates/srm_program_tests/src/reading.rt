@@ -126,6 +126,35 @@ fn a_live_member_turns_as_often_as_it_takes(rt: HostRuntime) {
     }
 }
 
+/// Whether the member of a command line keeps to its roster, whether it has a key, and how many drawops it may miss.
+fn guard_of(alloc: Global, line: &str) -> Option<(bool, bool, Option<u32>)> {
+    let guard = options_of(alloc, line)?.guard;
+    Some((guard.only_roster, guard.key.is_some(), guard.most_missing))
+}
+
+#[test]
+fn a_live_member_keeps_to_its_roster_unless_told_otherwise(rt: HostRuntime) {
+    for (words, wanted) in [
+        ("--me 0", (false, false, None)),
+        ("--me 0 --any-origin", (false, false, None)),
+        ("--me 0 --only-roster", (true, false, None)),
+        ("--me 0 --live", (true, false, None)),
+        ("--me 0 --live --only-roster", (true, false, None)),
+        ("--me 0 --live --any-origin", (false, false, None)),
+        ("--me 0 --key k", (false, true, None)),
+        (
+            "--me 0 --live --most-missing 16777216",
+            (true, false, Some(16_777_216)),
+        ),
+    ] {
+        let told = match format!(in rt.alloc(); "--session 7 {words} 127.0.0.1:1") {
+            Ok(line) => guard_of(rt.alloc(), line.as_str()),
+            Err(_) => None,
+        };
+        assert_eq!(rt; told, Some(wanted), "{words}");
+    }
+}
+
 fn address_at(alloc: Global, line: &str, place: usize) -> Option<SocketAddr> {
     let options = options_of(alloc, line)?;
     options.addresses.get(place).copied()

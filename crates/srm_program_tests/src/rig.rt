@@ -12,6 +12,7 @@ use std::alloc::{AllocError, Global};
 use std::io;
 use std::io::{ErrorKind, Read, Write};
 use std::net::{Ipv4Addr, Net, SocketAddr};
+use std::rt::Files;
 use std::sync::Wait;
 use std::thread::Threads;
 use std::time::Clock;
@@ -107,7 +108,7 @@ pub(crate) fn run_over<R, I: Read, O: Write>(
     out: &mut O,
 ) -> Result<(u8, Vec<u8>), AllocError>
 where
-    R: Net + Clock + Threads + Wait + AllocGlobal + Copy + Send + Drop + 'static,
+    R: Net + Files + Clock + Threads + Wait + AllocGlobal + Copy + Send + Drop + 'static,
 {
     let alloc = rt.alloc();
     let words: Vec<&str> = line.split(' ').collect(alloc)?;
@@ -122,7 +123,7 @@ where
 /// Runs `srm node` with these words, one space apart, on this input.
 pub(crate) fn run<R>(rt: &R, line: &str, input: &[u8]) -> Result<Ran, AllocError>
 where
-    R: Net + Clock + Threads + Wait + AllocGlobal + Copy + Send + Drop + 'static,
+    R: Net + Files + Clock + Threads + Wait + AllocGlobal + Copy + Send + Drop + 'static,
 {
     let mut reader = input;
     let mut out = Vec::new(rt.alloc());
@@ -133,7 +134,7 @@ where
 /// Runs a member that is the only one of its session, at a port that nobody has, and leaves at once.
 pub(crate) fn run_alone<R>(rt: &R, input: &[u8]) -> io::Result<Ran>
 where
-    R: Net + Clock + Threads + Wait + AllocGlobal + Copy + Send + Drop + 'static,
+    R: Net + Files + Clock + Threads + Wait + AllocGlobal + Copy + Send + Drop + 'static,
 {
     let port = free_port(rt)?;
     let line = format!(in rt.alloc(); "--session 7 --me 0 --stay 0 127.0.0.1:{port}")?;

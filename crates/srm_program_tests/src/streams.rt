@@ -5,6 +5,7 @@ use srm_rig::{broken, wanting};
 use std::io::{Read, Write};
 use std::net::Net;
 use std::process::Abort;
+use std::rt::Files;
 use std::sync::Wait;
 use std::test::Fail;
 use std::thread::Threads;
@@ -13,7 +14,7 @@ use std::time::Clock;
 /// A member whose address can't be bound ends with this status and text over this input.
 fn assert_refuses<R, I: Read>(rt: &R, input: &mut I, status: u8, text: &str) -> Result<(), Fail>
 where
-    R: Net + Clock + Threads + Wait + AllocGlobal + Abort + Copy + Send + Drop + 'static,
+    R: Net + Files + Clock + Threads + Wait + AllocGlobal + Abort + Copy + Send + Drop + 'static,
 {
     let mut out = Vec::new(rt.alloc());
     let line = "--session 7 --me 0 --stay 0 192.0.2.1:9";
@@ -45,7 +46,7 @@ fn a_wrong_line_comes_before_the_input(rt: HostRuntime) -> Result<(), Fail> {
 /// A member by itself ends with `srm: output` over this output.
 fn assert_output_fails<R, O: Write>(rt: &R, out: &mut O) -> Result<(), Fail>
 where
-    R: Net + Clock + Threads + Wait + AllocGlobal + Abort + Copy + Send + Drop + 'static,
+    R: Net + Files + Clock + Threads + Wait + AllocGlobal + Abort + Copy + Send + Drop + 'static,
 {
     let port = free_port(rt)?;
     let line = format!(in rt.alloc(); "--session 7 --me 0 --stay 0 127.0.0.1:{port}")?;

@@ -10,6 +10,7 @@ use std::io;
 use std::io::{ErrorKind, Read};
 use std::net::{Net, SocketAddr};
 use std::process::Abort;
+use std::rt::Files;
 use std::sync::{Arc, Wait};
 use std::test::Fail;
 use std::thread::Threads;
@@ -27,7 +28,7 @@ const TYPED: Given = Given {
 /// What stands on the terminal of a member by itself. The title was shown once a second, at most.
 fn typed_on_terminal<R>(rt: &R) -> Result<Written, Fail>
 where
-    R: Net + Clock + Threads + Wait + AllocGlobal + Abort + Copy + Send + Drop + 'static,
+    R: Net + Files + Clock + Threads + Wait + AllocGlobal + Abort + Copy + Send + Drop + 'static,
 {
     let start = Instant::now(rt)?;
     let (status, terminal, _) = run(rt, TYPED)?;
@@ -198,7 +199,7 @@ impl<R: Wait + Drop> Read for Peer<R> {
 /// Runs member 1 of three, beside member 0 and one that is silent. Its status, what it printed, and what it told.
 fn run_beside<R>(rt: &R) -> Result<(u8, Written, Written), Fail>
 where
-    R: Net + Clock + Threads + Wait + AllocGlobal + Copy + Send + Drop + 'static,
+    R: Net + Files + Clock + Threads + Wait + AllocGlobal + Copy + Send + Drop + 'static,
 {
     let alloc = rt.alloc();
     let (socket, first) = bound(rt)?;

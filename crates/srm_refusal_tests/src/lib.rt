@@ -21,6 +21,8 @@ mod reconciling;
 #[cfg(test)]
 mod rig;
 #[cfg(test)]
+mod scarce;
+#[cfg(test)]
 mod scripts;
 #[cfg(test)]
 mod stored;

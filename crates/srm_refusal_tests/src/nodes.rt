@@ -2,6 +2,7 @@
 
 use crate::lists::{Did, end};
 use crate::rig::{Rig, make, new_wires};
+use srm_control::{PageAnswer, PageCommand, PageControl};
 use srm_node::{MemWire, NodeFault, Wire};
 use std::alloc::Global;
 use std::process::Abort;
@@ -98,6 +99,30 @@ fn a_refused_turn_is_made_again(rt: HostRuntime) {
     turn(&rt, &mut second);
     assert_eq!(rt; end(&rt, first, STROKES, STROKES), ALL_OF_FIRST);
     check_second(&rt, end(&rt, second, b"", STROKES));
+}
+
+fn new_control<X: Wire + Drop>(rt: &impl Abort, alloc: Global, rig: &mut Rig<X>) -> PageControl {
+    match rig.node.control(alloc) {
+        Ok(control) => control,
+        Err(_) => rig.node.control(alloc).expect(rt, "memory"),
+    }
+}
+
+/// A command that memory ran out for is carried out in the turn that is made again, and answered once.
+#[test]
+fn a_refused_command_is_carried_out_in_the_next_turn(rt: HostRuntime) {
+    let Pair { mut first, .. } = new_pair(&rt, rt.alloc());
+    let mut control = new_control(&rt, rt.alloc(), &mut first);
+    assert_eq!(rt; control.command(&rt, PageCommand::Begin), Ok(()));
+    turn(&rt, &mut first);
+    let begun = PageAnswer {
+        command: PageCommand::Begin,
+        outcome: Ok(srm_rig::page(0, 1).expect(&rt, "a page")),
+    };
+    assert_eq!(rt; control.answer(&rt), Some(begun));
+    turn(&rt, &mut first);
+    assert_eq!(rt; control.answer(&rt), None);
+    assert_eq!(rt; end(&rt, first, STROKES, STROKES), ALL_OF_FIRST);
 }
 
 /// Whether one of two turns was refused. None is made after one that was.

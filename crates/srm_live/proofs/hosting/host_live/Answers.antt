@@ -1,13 +1,34 @@
-use Rattle.std.proofs.Common.{sym, ◌∙◌}
+use Rattle.std.proofs.Common.{◌∷◌, refl, sym, ◌∙◌, subst}
 use Rattle.srm_node.specs.Calls.{calls_of}
 use Rattle.srm_node.specs.Hosting.{kinds_of}
 use Rattle.srm_udp.specs.Clocks.{NeverFalls}
-use Rattle.srm_live.proofs.LiveRuns.{lanes_if, live_run}
+use Rattle.srm_live.specs.LiveRuns.{HaveTyped}
+use Rattle.srm_live.proofs.LiveRuns.{lanes_if, typed_all, if_some, some_is, live_pens, live_run}
 use Rattle.srm_live.proofs.hosting.host_live.Goals as goal
 
-pub settle-requires : goal.settle-requires
-settle-requires g c = lanes_if _ _ c.in-Some.hosted.end c.in-Some.ensures.lanes c.requires.new.lanes
+pub settle-requires-clause-lanes : goal.settle-requires-clause-lanes
+settle-requires-clause-lanes g c = lanes_if _ _ c.in-Some.hosted.end c.in-Some.ensures.lanes c.requires.new.lanes
+
+pub settle-requires-clause-pens : goal.settle-requires-clause-pens
+settle-requires-clause-pens g c =
+    let known = g.I.Read.remaining c.args.reader in
+    let pens = c.args.station.pens.items in
+    if_some c.join_typing-typed.result (λ p. HaveTyped known pens p.first p.others.items) _
+    (typed_all c.start_typing-typing.result c.join_typing-typed.result _ _ (λ t p. HaveTyped (g.I.Read.remaining t.first.promise.1.value) (t.first.promise.0.value ∷ t.others.items) p.first p.others.items) (λ p. HaveTyped known pens p.first p.others.items)
+    c.join_typing-typed.ensures.none c.join_typing-typed.ensures.typed c.start_typing-typing.ensures.reader c.start_typing-typing.ensures.pens
+    (λ t p typed reader_is pens_are. subst (λ i. HaveTyped (g.I.Read.remaining i) pens p.first p.others.items) reader_is (subst (λ ps. HaveTyped (g.I.Read.remaining t.first.promise.1.value) ps p.first p.others.items) (sym pens_are) typed)))
+    (λ p typed. live_pens c.in-Some.hosted.end c.args.station.node.view c.args.station.taps.items pens c.in-Some.well known p.first p.others.items c.requires.new c.in-Some.ensures.well typed)
 
 pub returns-in-Some : goal.returns-in-Some
-returns-in-Some g c = λ none. live_run (calls_of NeverFalls g.X.Wire.receives g.X.Wire.sends g.X.Wire.pauses) (kinds_of (λ l. l.items) _ g.S.PageSink.sees) c.args.turns c.args.station.node.view c.args.station.taps.items c.args.station.pens.items c.args.sinks.items _ c.in-Some.hosted _
-    c.requires.new (sym c.args.sinks.ok.0 ∙ c.requires.sinks) c.in-Some.ensures.hosts (sym c.settle.ensures.fault ∙ none) (c.settle.ensures.takes none)
+returns-in-Some g c = λ none.
+    let known = g.I.Read.remaining c.args.reader in
+    let pens = c.args.station.pens.items in
+    let (t, typed_is, first, others) = c.settle.ensures.pens none in
+    let typed : HaveTyped known pens t.first t.others.items =
+    some_is c.join_typing-typed.result t (λ p. HaveTyped known pens p.first p.others.items)
+    (typed_all c.start_typing-typing.result c.join_typing-typed.result _ _ (λ t p. HaveTyped (g.I.Read.remaining t.first.promise.1.value) (t.first.promise.0.value ∷ t.others.items) p.first p.others.items) (λ p. HaveTyped known pens p.first p.others.items)
+    c.join_typing-typed.ensures.none c.join_typing-typed.ensures.typed c.start_typing-typing.ensures.reader c.start_typing-typing.ensures.pens
+    (λ t p typed reader_is pens_are. subst (λ i. HaveTyped (g.I.Read.remaining i) pens p.first p.others.items) reader_is (subst (λ ps. HaveTyped (g.I.Read.remaining t.first.promise.1.value) ps p.first p.others.items) (sym pens_are) typed)))
+    typed_is in
+    live_run (calls_of NeverFalls g.X.Wire.receives g.X.Wire.sends g.X.Wire.pauses) (kinds_of (λ l. l.items) _ g.S.PageSink.sees) c.args.turns c.args.station.node.view c.args.station.taps.items pens c.args.sinks.items _ c.in-Some.hosted _ _ known t.first t.others.items
+    c.requires.new (sym c.args.sinks.ok.0 ∙ c.requires.sinks) c.in-Some.ensures.hosts refl (c.settle.ensures.fault none) (c.settle.ensures.takes none) typed first others

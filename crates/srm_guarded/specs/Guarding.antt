@@ -1,0 +1,28 @@
+-- A member's wire with its guard, as the member's options say.
+use Rattle.std.specs.Prelude.{ℕ, Bool, List, Option, is_some}
+use Rattle.std.specs.declared.net.socket_addr.SocketAddr.{SocketAddr}
+use Rattle.srm_options.specs.declared.guard_options.GuardOptions.{GuardOptions}
+use Rattle.srm_wire.specs.declared.sent.Sent.{Sent}
+use Rattle.srm_wire.specs.Wires.{counted_with}
+use Rattle.srm_udp.specs.Udp.{UdpView, new_wire, with_inbox, SendsOne, ReceivesNext}
+use Rattle.srm_guard.specs.Guards.{GuardView, new_guard, SendsTagged, ReceivesTagged}
+
+-- a wire that keeps to its roster, or takes datagrams from any address
+abbrev pub keeping_to : Bool → UdpView → UdpView
+keeping_to only_roster w = with_inbox (record w.inbox { only_roster = only_roster }) w
+
+-- A new wire to the members at these addresses, which keeps to them if the options say so, within a guard with this key and with a limit if the options have one.
+abbrev pub guarded_wire : List SocketAddr → GuardOptions → Option (List ℕ) → GuardView UdpView
+guarded_wire roster options key = new_guard (keeping_to options.only_roster (new_wire roster)) key (is_some options.most_missing)
+
+-- What a send by such a wire does, by whether it failed.
+abbrev pub GuardedSends : GuardView UdpView → Sent → Bool → GuardView UdpView → Type 0
+GuardedSends old sent failed new = SendsTagged (λ below bytes lost after. SendsOne bytes lost below after) old sent failed new
+
+-- What a receive does, by the room and the answer.
+abbrev pub GuardedReceives : GuardView UdpView → ℕ → List (Option (List ℕ)) → GuardView UdpView → Type 0
+GuardedReceives old room answer new = ReceivesTagged (λ below space told after. ReceivesNext space told below after) room answer old new
+
+-- how many of its calls failed
+abbrev pub guarded_failures : GuardView UdpView → ℕ
+guarded_failures g = counted_with g.wire.failures g.own

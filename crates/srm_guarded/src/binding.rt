@@ -1,0 +1,87 @@
+//! Binding a member's wire, with its guard.
+
+ghost use Rattle.std.specs.Prelude.{◌≡◌, ◌<◌, vec_len, is_some, false, IfOk};
+ghost use Rattle.srm_guarded.specs.Guarding.{guarded_wire, keeping_to};
+
+use srm_entries::Config;
+use srm_guard::{Guard, Key, Known, Limit};
+use srm_options::GuardOptions;
+use srm_udp::{UdpWire, WireWaker};
+use std::alloc::{AllocError, Global};
+use std::io;
+use std::net::{Net, SocketAddr};
+use std::sync::Arc;
+
+/// A member's wire with its guard, and what other threads and the member's past have of it.
+#[derive(Drop)]
+pub struct Guarded {
+    pub wire: Guard<UdpWire>,
+    /// What ends the wire's pauses. `None` if there was no memory for it: a pause then goes on to its end.
+    pub waker: Option<Arc<WireWaker, Global>>,
+    /// Where the member says what it knows, if its guard has a limit.
+    pub known: Option<Arc<Known, Global>>,
+}
+
+/// Binds a socket to the address of the member that these settings are for, and puts the guard of these options around its wire. Fails as [`UdpWire::bind`] does, and with `OutOfMemory`.
+pub fn bind_guarded(
+    rt: &impl Net,
+    alloc: Global,
+    config: Config,
+    guard: &GuardOptions,
+    key: Option<Key>,
+    addresses: Vec<SocketAddr>,
+) -> io::Result<Guarded>
+    ensures new { IfOk result (λ g. g.wire ≡ guarded_wire addresses.items guard.now key) }
+    ensures known { IfOk result (λ g. is_some g.known ≡ is_some guard.now.most_missing) }
+    ensures place { IfOk result (λ g. config.me < vec_len addresses) }
+{
+    let known = known_of(alloc, guard)?;
+    let limit = limit_of(config, guard, &known)?;
+    let mut wire = UdpWire::bind(rt, alloc, config.me(), addresses)?;
+    keep_to(&mut wire, guard.only_roster);
+    let waker = wire.waker().ok();
+    let wire = Guard::new(wire, alloc, key, limit)?;
+    Ok(Guarded { wire, waker, known })
+}
+
+#[tactic(auto, using(crate::proofs::Keeping::kept, crate::proofs::Keeping::unkept))]
+// Makes a new wire keep to its roster, if it is to.
+fn keep_to(wire: &mut UdpWire, only_roster: bool)
+    requires { wire.old.inbox.only_roster ≡ false }
+    ensures { wire.new ≡ keeping_to only_roster wire.old }
+{
+    if only_roster {
+        wire.keep_to_roster();
+    }
+}
+
+// Returns where the member is to say what it knows, if there is a limit.
+fn known_of(alloc: Global, guard: &GuardOptions) -> Result<Option<Arc<Known, Global>>, AllocError>
+    ensures { IfOk result (λ known. is_some known ≡ is_some guard.now.most_missing) }
+{
+    if guard.most_missing.is_none() {
+        return Ok(None);
+    }
+    let known = Arc::new(alloc, Known::new(alloc)?)?;
+    Ok(Some(known))
+}
+
+// Returns the limit that these options ask for, if they do.
+fn limit_of(
+    config: Config,
+    guard: &GuardOptions,
+    known: &Option<Arc<Known, Global>>,
+) -> Result<Option<Limit>, AllocError>
+    requires { is_some known.now ≡ is_some guard.now.most_missing }
+    ensures { IfOk result (λ limit. is_some limit ≡ is_some guard.now.most_missing) }
+{
+    match (guard.most_missing, known) {
+        (Some(most), Some(known)) => Ok(Some(Limit {
+            most: u64::from(most),
+            session: config.session(),
+            me: config.me(),
+            known: Arc::try_clone(known)?,
+        })),
+        _ => Ok(None),
+    }
+}

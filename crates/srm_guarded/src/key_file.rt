@@ -1,0 +1,74 @@
+//! The key file of a member.
+
+ghost use Rattle.std.specs.Prelude.{◌≡◌, is_some, IfOk};
+
+use srm_guard::{Key, KeyFault};
+use srm_options::GuardOptions;
+use std::alloc::{AllocError, Global};
+use std::fs::File;
+use std::io::ErrorKind;
+use std::rt::Files;
+use thiserror::Error;
+
+/// Why a key file can't be used. Its text is the line that standard error gets.
+#[derive(Debug, Drop, PartialEq, Eq, Error)]
+pub enum KeyFileFault {
+    /// The file at this path can't be opened or read, for this cause.
+    #[error("srm: cannot read key {0}: {1}")]
+    Unreadable(String, ErrorKind),
+    /// The file at this path doesn't have 16 to 1,024 bytes.
+    #[error("srm: cannot use key {0}: not 16 to 1024 bytes")]
+    Length(String),
+    /// Out of memory.
+    #[error("srm: memory")]
+    Memory,
+}
+
+impl From<AllocError> for KeyFileFault {
+    fn from(_error: AllocError) -> KeyFileFault {
+        KeyFileFault::Memory
+    }
+}
+
+/// Reads the key from the file that the options name: all of its bytes, 16 to 1,024. Returns `None` if they name none. Fails with the cause if the file can't be read, if it has another
+/// length, and if out of memory.
+pub fn read_key<R: Files>(
+    rt: &R,
+    alloc: Global,
+    guard: &GuardOptions,
+) -> Result<Option<Key>, KeyFileFault>
+    ensures { IfOk result (λ key. is_some key ≡ is_some guard.now.key) }
+{
+    let Some(path) = &guard.key else {
+        return Ok(None);
+    };
+    match read_file(rt, alloc, path.as_str()) {
+        Ok(key) => Ok(Some(key)),
+        Err(fault) => Err(fault),
+    }
+}
+
+fn read_file<R: Files>(rt: &R, alloc: Global, path: &str) -> Result<Key, KeyFileFault> {
+    match File::open(rt, path) {
+        Ok(mut file) => match Key::read(alloc, &mut file) {
+            Ok(key) => Ok(key),
+            Err(fault) => Err(told(alloc, path, fault)),
+        },
+        Err(error) => Err(told(alloc, path, KeyFault::Unreadable(error))),
+    }
+}
+
+// Returns a fault with its path.
+fn told(alloc: Global, path: &str, fault: KeyFault) -> KeyFileFault {
+    let Ok(path) = String::from_str(alloc, path) else {
+        return KeyFileFault::Memory;
+    };
+    match fault {
+        KeyFault::Unreadable(error) => match error.kind() {
+            ErrorKind::OutOfMemory => KeyFileFault::Memory,
+            cause => KeyFileFault::Unreadable(path, cause),
+        },
+        KeyFault::Length => KeyFileFault::Length(path),
+        KeyFault::Memory => KeyFileFault::Memory,
+    }
+}

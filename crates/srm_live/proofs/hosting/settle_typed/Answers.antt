@@ -1,0 +1,9 @@
+use Rattle.srm_member.proofs.WholeRuns.{without_fault}
+use Rattle.srm_member.proofs.WholeTakes.{of_lists}
+use Rattle.srm_live.proofs.hosting.settle_typed.Goals as goal
+
+pub put_together-requires-clause-lanes : goal.put_together-requires-clause-lanes
+put_together-requires-clause-lanes g c = without_fault c.args.hosted.end _ _ (of_lists _ _ _ c.of_whole_run.ensures c.in-None.is) c.requires.lanes
+
+pub put_together-requires-clause-pens : goal.put_together-requires-clause-pens
+put_together-requires-clause-pens g c = without_fault c.args.hosted.end _ _ (of_lists _ _ _ c.of_whole_run.ensures c.in-None.is) c.requires.pens

@@ -1,0 +1,207 @@
+//! What a live member's guard drops.
+
+use crate::lives::*;
+use crate::rig::{bound, options_of};
+use mio::net::UdpSocket;
+use srm_live::run_live;
+use std::io::{ErrorKind, Read};
+use std::net::{Net, SocketAddr};
+use std::process::Abort;
+use std::rt::Files;
+use std::sync::{Arc, Wait};
+use std::test::Fail;
+use std::thread::Threads;
+use std::time::Clock;
+use std::{fs, io};
+
+/// A session message of member 0 in session 7, sent at 0, that tells of no stroke.
+const HELLO: &[u8] = &[
+    0x53, 0x52, 1, 4, 0, 0, 0, 7, 0, 0, 0, 0, 0, 0, 0, 0, 0, 0, 0, 0, 0, 0, 0,
+];
+
+/// The same with its tag by the key of the bytes 0 to 31, worked out by another program.
+const TAGGED: &[u8] = &[
+    0x53, 0x52, 1, 4, 0, 0, 0, 7, 0, 0, 0, 0, 0, 0, 0, 0, 0, 0, 0, 0, 0, 0, 0, // message
+    0xd5, 0xac, 0xba, 0x23, 0x51, 0x43, 0xdb, 0x78, 0xb1, 0xda, 0x14, 0x2d, 0xba, 0x90, 0xfb, 0x62,
+];
+
+/// The same with a tag whose last bit is wrong.
+const FORGED: &[u8] = &[
+    0x53, 0x52, 1, 4, 0, 0, 0, 7, 0, 0, 0, 0, 0, 0, 0, 0, 0, 0, 0, 0, 0, 0, 0, // message
+    0xd5, 0xac, 0xba, 0x23, 0x51, 0x43, 0xdb, 0x78, 0xb1, 0xda, 0x14, 0x2d, 0xba, 0x90, 0xfb, 0x63,
+];
+
+/// A session message of member 0 that tells of its own stroke 3 on the first page, and one that tells of stroke 5.
+const THREE: &[u8] = &[
+    0x53, 0x52, 1, 4, 0, 0, 0, 7, 0, 0, 0, 0, 0, 0, 0, 0, 0, 0, 0, 0, 0, 1, // message
+    0, 0, 0, 0, 0, 0, 0, 3, 0, // row, and no echo
+];
+
+const FIVE: &[u8] = &[
+    0x53, 0x52, 1, 4, 0, 0, 0, 7, 0, 0, 0, 0, 0, 0, 0, 0, 0, 0, 0, 0, 0, 1, // message
+    0, 0, 0, 0, 0, 0, 0, 5, 0, // row, and no echo
+];
+
+/// What comes to member 1.
+#[derive(Clone, Copy)]
+enum Come {
+    /// These bytes, from the address of member 0.
+    Known(&'static [u8]),
+    /// These bytes, from an address outside the roster.
+    Strange(&'static [u8]),
+}
+
+/// An input that sends one datagram after another to member 1, and ends once that told that member 0 is here. It fails where that isn't told within 30,000 looks, each a millisecond or more.
+#[derive(Drop)]
+struct Coming<R: Wait + Drop> {
+    rt: R,
+    err: Written,
+    known: UdpSocket,
+    strange: UdpSocket,
+    to: SocketAddr,
+    comes: &'static [Come],
+    at: usize,
+    looks: u32,
+}
+
+impl<R: Wait + Drop> Coming<R> {
+    fn send(&self, come: Come) -> io::Result<()> {
+        match come {
+            Come::Known(bytes) => self.known.send_to(bytes, self.to)?,
+            Come::Strange(bytes) => self.strange.send_to(bytes, self.to)?,
+        };
+        Ok(())
+    }
+}
+
+impl<R: Wait + Drop> Read for Coming<R> {
+    fn read(&mut self, _buffer: &mut [u8]) -> io::Result<usize> {
+        if let Some(come) = self.comes.get(self.at).copied() {
+            self.at = self.at.saturating_add(1);
+            self.send(come)?;
+            return Err(io::Error::from(ErrorKind::WouldBlock));
+        }
+        if has(&self.rt, &self.err, "member 0 is here") {
+            return Ok(0);
+        }
+        self.looks = self.looks.saturating_add(1);
+        if self.looks > 30_000 {
+            return Err(io::Error::from(ErrorKind::BrokenPipe));
+        }
+        Err(io::Error::from(ErrorKind::WouldBlock))
+    }
+}
+
+/// Runs member 1 of two with these options while these datagrams come. Its status, and what it told.
+fn run_while<R>(rt: &R, words: &str, comes: &'static [Come]) -> Result<(u8, Written), Fail>
+where
+    R: Net + Files + Clock + Threads + Wait + AllocGlobal + Copy + Send + Drop + 'static,
+{
+    let alloc = rt.alloc();
+    let (known, first) = bound(rt)?;
+    let (own, to) = bound(rt)?;
+    let (strange, _elsewhere) = bound(rt)?;
+    drop(own);
+    let line = format!(in alloc; "--session 7 --me 1 --live --stay 0{words} {first} {to}")?;
+    let options = options_of(alloc, line.as_str()).ok_or("options")?;
+    let (out, err) = streams(alloc, false)?;
+    let input = Coming {
+        rt: *rt,
+        err: Arc::try_clone(&err)?,
+        known,
+        strange,
+        to,
+        comes,
+        at: 0,
+        looks: 0,
+    };
+    let to_out = output_in(rt, alloc, &out, GIVEN)?;
+    let to_err = keep_in(rt, &err, false)?;
+    let status = run_live(rt, options, input, to_out, to_err);
+    Ok((status, err))
+}
+
+const HERE: &str = "srm: member 0 is here\n";
+
+const NOT_LEFT: &str = "srm: not heard leaving: 0\n";
+
+const STRANGE: &str = "srm: dropped a datagram from outside the roster: --any-origin takes such\n";
+
+const UNTAGGED: &str =
+    "srm: dropped a datagram without the right tag: do all members have this key?\n";
+
+/// Member 1 ends well, and told each of these lines once and no other.
+fn assert_tells<R>(rt: &R, words: &str, comes: &'static [Come], lines: &[&str]) -> Result<(), Fail>
+where
+    R: Net + Files + Clock + Threads + Wait + AllocGlobal + Abort + Copy + Send + Drop + 'static,
+{
+    let (status, err) = run_while(rt, words, comes)?;
+    assert_eq!(rt; status, 0);
+    for line in lines.iter().copied() {
+        assert_eq!(rt; count_of(rt, &err, line), 1, "{line}");
+    }
+    assert_eq!(rt; count_of(rt, &err, "\n"), lines.len());
+    Ok(())
+}
+
+#[test]
+fn what_comes_from_elsewhere_is_dropped(rt: HostRuntime) -> Result<(), Fail> {
+    let comes = &[
+        Come::Strange(HELLO),
+        Come::Strange(HELLO),
+        Come::Known(HELLO),
+    ];
+    let lines = [
+        HERE,
+        NOT_LEFT,
+        STRANGE,
+        "srm: dropped: outside the roster 2\n",
+    ];
+    assert_tells(&rt, "", comes, &lines)
+}
+
+#[test]
+fn any_origin_will_do_where_that_is_asked_for(rt: HostRuntime) -> Result<(), Fail> {
+    let comes = &[Come::Strange(HELLO)];
+    assert_tells(&rt, " --any-origin", comes, &[HERE, NOT_LEFT])
+}
+
+#[test]
+fn what_has_no_right_tag_is_dropped(rt: HostRuntime) -> Result<(), Fail> {
+    let mut key = [0; 32];
+    for (number, byte) in (0..32).zip(key.iter_mut()) {
+        *byte = number;
+    }
+    let path = format!(in rt.alloc(); "/tmp/srm-key-{}", crate::rig::free_port(&rt)?)?;
+    fs::write(&rt, path.as_str(), key.as_slice())?;
+    let comes = &[
+        Come::Known(HELLO),
+        Come::Known(FORGED),
+        Come::Strange(TAGGED),
+        Come::Known(TAGGED),
+    ];
+    let lines = [
+        HERE,
+        NOT_LEFT,
+        STRANGE,
+        UNTAGGED,
+        "srm: dropped: outside the roster 1, no right tag 2\n",
+    ];
+    let words = format!(in rt.alloc(); " --key {path}")?;
+    assert_tells(&rt, words.as_str(), comes, &lines)?;
+    fs::remove_file(&rt, path.as_str())?;
+    Ok(())
+}
+
+// The first would make five missing; the other makes three, which aren't there at the end.
+#[test]
+fn what_would_make_too_much_missing_is_dropped(rt: HostRuntime) -> Result<(), Fail> {
+    let comes = &[Come::Known(FIVE), Come::Known(THREE)];
+    let lines = [
+        HERE,
+        NOT_LEFT,
+        "srm: missing 3 of member 0 on page 0.0\n",
+        "srm: dropped: too much missing 1\n",
+    ];
+    assert_tells(&rt, " --most-missing 3", comes, &lines)
+}
