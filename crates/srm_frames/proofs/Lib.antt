@@ -1,0 +1,8 @@
+mod Remainders
+mod ChecksumBounds
+pub mod Elements
+mod FrameLaws
+mod MessageLaws
+mod LineLaws
+mod BeginningLaws
+mod RecordLaws

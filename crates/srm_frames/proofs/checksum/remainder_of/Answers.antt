@@ -1,0 +1,5 @@
+use Rattle.srm_frames.proofs.Remainders.{remainder_at}
+use Rattle.srm_frames.proofs.checksum.remainder_of.Goals as goal
+
+pub returns : goal.returns
+returns c = remainder_at c.args.low c.requires

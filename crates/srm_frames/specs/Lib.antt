@@ -1,0 +1,10 @@
+pub mod Checksums
+pub mod ChecksumExamples
+pub mod Frames
+pub mod Messages
+pub mod Lines
+pub mod Beginnings
+pub mod Readings
+pub mod WhatIsRead
+pub mod Begun
+pub mod LinesRead
