@@ -1,0 +1,189 @@
+//! The threads that serve the browsers.
+
+use crate::easel::Easel;
+use crate::guard::Guard;
+use crate::hall::Hall;
+use crate::patient::Patient;
+use crate::serving::{Desk, Shown};
+use crate::slate::Slate;
+use http_server::{Config, Connection, serve};
+use std::alloc::Global;
+use std::hash::RandomState;
+use std::net::{TcpListener, TcpStream};
+use std::random::RandomSource;
+use std::sync::{Arc, Wait};
+use std::thread::{JoinHandle, Threads};
+use std::time::Duration;
+use std::{thread, time};
+
+/// Connections that are served at once, each by a thread. A browser keeps up to six.
+const SERVED: u8 = 24;
+
+/// How long the thread that takes connections sleeps where there is none, in milliseconds.
+const NAP: u64 = 20;
+
+/// How long a read waits before it is looked whether the run has ended, in milliseconds.
+const LOOK: u64 = 200;
+
+/// How long a browser may keep a write waiting, in milliseconds.
+const SLOW: u64 = 10_000;
+
+/// The longest body of a request, in bytes.
+const LONGEST: usize = 70_000;
+
+/// What a server shows of its member, and to whom.
+#[derive(Drop)]
+pub struct Face {
+    pub me: u8,
+    pub members: u8,
+    pub session: u32,
+    pub guard: Guard,
+}
+
+/// The threads that serve the browsers.
+#[derive(Drop)]
+pub struct Door {
+    threads: Vec<JoinHandle<()>>,
+}
+
+impl Door {
+    /// Waits for all threads, which end once the slate has ended: after 200 ms or so, and after 10 s at most if a slow browser keeps a write waiting.
+    pub fn close<R: Threads>(self, rt: &R) {
+        for thread in self.threads {
+            thread.join(rt);
+        }
+    }
+}
+
+/// Serves a member's slate to the browsers that come to a listener whose `accept` doesn't wait, by 25 threads.
+///
+/// Returns `None` if there is no memory, no thread or no randomness. The threads that it started by then end with the slate.
+pub fn open_door<R, K>(
+    rt: &R,
+    alloc: Global,
+    listener: TcpListener,
+    face: Face,
+    slate: Arc<Slate, Global>,
+    easel: K,
+) -> Option<Door>
+where
+    R: time::Clock + Threads + Wait + RandomSource + Copy + Send + Drop + 'static,
+    K: Easel + Send + Sync + Drop + 'static,
+{
+    let for_porter = Arc::try_clone(&slate).ok()?;
+    let shown = Shown {
+        face,
+        run: new_run(rt)?,
+        slate,
+        easel,
+    };
+    let shown = Arc::new(alloc, shown).ok()?;
+    let hall = Arc::new(alloc, Hall::new(alloc)).ok()?;
+    let mut threads = Vec::new(alloc);
+    for _ in 0..SERVED {
+        threads.push(start_desk(rt, alloc, &shown, &hall)?).ok()?;
+    }
+    threads
+        .push(start_porter(rt, listener, for_porter, hall)?)
+        .ok()?;
+    Some(Door { threads })
+}
+
+// A number by which a page knows that this is another run than the one that it saw.
+fn new_run<R: RandomSource>(rt: &R) -> Option<u64> {
+    let mut bytes = [0_u8; 8];
+    rt.fill_bytes(&mut bytes).ok()?;
+    Some(u64::from_be_bytes(bytes))
+}
+
+fn start_desk<R, K>(
+    rt: &R,
+    alloc: Global,
+    shown: &Arc<Shown<K>, Global>,
+    hall: &Arc<Hall, Global>,
+) -> Option<JoinHandle<()>>
+where
+    R: time::Clock + Threads + Wait + RandomSource + Copy + Send + Drop + 'static,
+    K: Easel + Send + Sync + Drop + 'static,
+{
+    let own = *rt;
+    let shown = Arc::try_clone(shown).ok()?;
+    let hall = Arc::try_clone(hall).ok()?;
+    thread::spawn(rt, move || serve_all(&own, alloc, &shown, &hall)).ok()
+}
+
+fn start_porter<R>(
+    rt: &R,
+    listener: TcpListener,
+    slate: Arc<Slate, Global>,
+    hall: Arc<Hall, Global>,
+) -> Option<JoinHandle<()>>
+where
+    R: time::Clock + Threads + Wait + Copy + Send + Drop + 'static,
+{
+    let own = *rt;
+    thread::spawn(rt, move || let_in(&own, &listener, &slate, &hall)).ok()
+}
+
+// Takes the connections that come, until the run has ended.
+fn let_in<R: Wait + time::Clock>(rt: &R, listener: &TcpListener, slate: &Slate, hall: &Hall) {
+    for _ in rt.forever() {
+        if slate.has_ended() {
+            hall.close(rt);
+            return;
+        }
+        match listener.accept() {
+            Ok((stream, _)) => hall.put(rt, stream),
+            // None is there, or none can be taken now.
+            Err(_) => thread::sleep(rt, Duration::from_millis(NAP)),
+        }
+    }
+    unreachable!()
+}
+
+// Serves one connection after another, until the run has ended.
+fn serve_all<R, K>(rt: &R, alloc: Global, shown: &Arc<Shown<K>, Global>, hall: &Hall)
+where
+    R: time::Clock + Wait + RandomSource + Copy + Drop,
+    K: Easel + Drop,
+{
+    for _ in rt.forever() {
+        let Some(stream) = hall.next(rt) else {
+            return;
+        };
+        serve_one(rt, alloc, shown, &stream);
+    }
+    unreachable!()
+}
+
+// Serves a connection until it ends, or nothing comes for long.
+fn serve_one<R, K>(rt: &R, alloc: Global, shown: &Arc<Shown<K>, Global>, stream: &TcpStream)
+where
+    R: time::Clock + Wait + RandomSource + Copy + Drop,
+    K: Easel + Drop,
+{
+    let (Ok(keys), Ok(for_desk)) = (RandomState::new(rt), Arc::try_clone(shown)) else {
+        return;
+    };
+    let _ = stream.set_nodelay(true);
+    let timed = stream.set_read_timeout(Some(Duration::from_millis(LOOK)));
+    let slow = stream.set_write_timeout(Some(Duration::from_millis(SLOW)));
+    if timed.is_err() || slow.is_err() {
+        return;
+    }
+    let mut config = Config::default();
+    config.max_body_len = LONGEST;
+    let mut connection = Connection::new(alloc, keys, config);
+    let mut desk = Desk {
+        rt: *rt,
+        alloc,
+        shown: for_desk,
+    };
+    let mut reader = Patient {
+        stream,
+        slate: &shown.slate,
+    };
+    let mut writer = stream;
+    // A browser that breaks off harms nobody else.
+    let _ = serve(&mut connection, &mut desk, &mut reader, &mut writer);
+}

@@ -1,0 +1,50 @@
+//! What befell a member.
+
+ghost use Rattle.std.specs.Prelude.{◌≡◌, IfOk};
+
+use bytes::Bytes;
+use srm_names::{Member, Name, Page};
+use std::alloc::{AllocError, Global};
+
+/// What befell a member.
+#[derive(Debug, Drop)]
+pub enum Happening {
+    /// A drawop was found missing.
+    Missed(Name),
+    /// It was asked for.
+    Asked(Name),
+    /// A drawop that was missing came, in a datagram of this member.
+    Gained(Name, Member),
+    /// A drawop that another misses was repaired.
+    Repaired(Name),
+    /// A stroke of this member wasn't drawn, for the cause with this number.
+    Refused(Page, u8, Bytes),
+}
+
+impl Happening {
+    /// Returns an equal happening, over the same bytes. Fails only out of memory.
+    pub fn copy(&self) -> Result<Happening, AllocError>
+        ensures { IfOk result (λ copy. copy ≡ self.now) }
+    {
+        match self {
+            Happening::Missed(name) => Ok(Happening::Missed(*name)),
+            Happening::Asked(name) => Ok(Happening::Asked(*name)),
+            Happening::Gained(name, by) => Ok(Happening::Gained(*name, *by)),
+            Happening::Repaired(name) => Ok(Happening::Repaired(*name)),
+            Happening::Refused(page, cause, body) => {
+                Ok(Happening::Refused(*page, *cause, body.clone()?))
+            }
+        }
+    }
+}
+
+/// Returns equal ones of a list, in order. Fails only out of memory.
+pub fn copies(alloc: Global, all: &[Happening]) -> Result<Vec<Happening>, AllocError>
+    ensures { IfOk result (λ copies. copies.items ≡ all.now) }
+{
+    let mut copies = Vec::new(alloc);
+    for one in all {
+        copies.push(one.copy()?)?;
+    }
+    Ok(copies)
+}

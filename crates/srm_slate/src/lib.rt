@@ -1,0 +1,51 @@
+//! What the browsers of a member's board are shown, and the server that shows it.
+//!
+//! A [`Slate`] holds the messages that a member's page workers took, in order, and what befell the member: what it misses, requests, receives late and repairs.
+//! [`open_door`] serves it over HTTP: the page, a long poll of what is new, and the strokes that the page draws, which go to an [`Easel`].
+//!
+//! Each tab asks for what comes behind what it has, so a tab that is slow or asleep delays nobody. What a tab was told is a prefix of what the workers took: the contract
+//! of [`Record::look`] says so.
+//!
+//! ```
+//! let slate = Arc::new(alloc, Slate::new(alloc))?;
+//! let door = open_door(&rt, alloc, listener, face, Arc::try_clone(&slate)?, easel).ok_or(..)?;
+//! slate.take(&rt, 0, &message); // A page worker took a message.
+//! slate.end(&rt); // The member's run has ended.
+//! door.close(&rt);
+//! ```
+//!
+//! **Who may ask.** [`Guard::judge`] refuses any request that names another host, lacks the token of the page's address, or comes from a page of another site.
+//!
+//! **Errors.** Out of memory, a [`Record`] keeps no later message and says that it is lossy; a request gets no answer, and the page asks again. [`open_door`] returns `None`
+//! if it can't start its threads.
+#![tactic(auto)]
+
+mod asked;
+mod asking;
+mod door;
+mod easel;
+mod guard;
+mod hall;
+mod happening;
+mod happenings;
+mod look;
+mod missing;
+mod page;
+mod patient;
+mod record;
+mod serving;
+mod slate;
+mod taken;
+mod telling;
+mod token;
+
+pub use asked::{Asked, Method};
+pub use door::{Door, Face, open_door};
+pub use easel::{Drawn, Easel};
+pub use guard::{Guard, Judged, Wish};
+pub use happening::Happening;
+pub use look::{Counts, Look};
+pub use record::Record;
+pub use slate::Slate;
+pub use taken::Taken;
+pub use token::new_token;

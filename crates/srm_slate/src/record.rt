@@ -1,0 +1,235 @@
+//! What there is to show so far.
+
+ghost use Rattle.std.specs.Prelude.{◌≡◌, ◌-◌, [], ◌∷◌, ◌++◌, ◌&&◌, ◌==◌, nat_le, not, length, map, take, drop, true, false, IfOk, OnOk, OnErr};
+ghost use Rattle.srm_slate.specs.declared.missing.TheConstants.{NAMED};
+ghost use Rattle.srm_slate.specs.Happenings.{newest, one_more};
+ghost use Rattle.srm_slate.specs.Missing.{is_told_of, without_missing};
+ghost use Rattle.srm_slate.specs.Slates.{blank, happened, missed, gained, told_from, Shows, StaysPrefix, KeepsPrefix};
+
+use crate::happening::Happening;
+use crate::happenings::Happenings;
+use crate::look::{Counts, Look};
+use crate::missing::Missing;
+use crate::taken::{Taken, copies};
+use indexmap::IndexMap;
+use srm_names::{MEMBERS, Member, Name, PageMsg, Stream};
+use std::alloc::{AllocError, Global};
+use std::marker::Model;
+
+/// The messages that are told at once, at most.
+pub const TOLD: usize = 1_000;
+
+/// What there is to show so far.
+#[derive(Drop)]
+pub struct Record {
+    alloc: Global,
+    taken: Vec<Taken>,
+    is_lossy: bool,
+    missing: Missing,
+    happenings: Happenings,
+    // Of each stream the greatest number that came.
+    reached: IndexMap<Stream, u32>,
+    counts: Counts,
+    // The datagrams that came from each member.
+    heard: [u64; MEMBERS as usize],
+    is_stale: bool,
+    has_ended: bool,
+}
+
+impl Model for Record {
+    ghost use Rattle.srm_slate.specs.RecordView.{RecordView};
+
+    ghost Value = { RecordView };
+
+    ghost view = { λ r. record { taken = r.taken.items; is_lossy = r.is_lossy; missing = r.missing; happenings = r.happenings; counts = r.counts; heard = r.heard; is_stale = r.is_stale; has_ended = r.has_ended } };
+}
+
+impl Record {
+    /// Makes a record of nothing. Takes no memory.
+    pub fn new(alloc: Global) -> Record
+        ensures { result ≡ blank }
+    {
+        Record {
+            alloc,
+            taken: Vec::new(alloc),
+            is_lossy: false,
+            missing: Missing::new(alloc),
+            happenings: Happenings::new(alloc),
+            reached: IndexMap::new(alloc),
+            counts: Counts::default(),
+            heard: [0; MEMBERS as usize],
+            is_stale: false,
+            has_ended: false,
+        }
+    }
+
+    /// Adds a message that the page worker of a slot took. Fails only out of memory, and from then on always: no later message is kept, so that what is shown
+    /// stays a prefix of what was taken.
+    #[tactic(auto, using(crate::proofs::Prefixes::stays_behind, crate::proofs::Prefixes::stays_equal))]
+    pub fn take(&mut self, slot: u8, message: &PageMsg) -> Result<(), AllocError>
+        ensures ok { OnOk result (self.new ≡ record self.old { taken = self.old.taken ++ (record { slot = slot; message = message.now }) ∷ [] }) }
+        ensures whole { OnOk result (self.old.is_lossy ≡ false) }
+        ensures err { OnErr result (self.new ≡ record self.old { is_lossy = true }) }
+        ensures stays { StaysPrefix self.old.taken self.new.taken }
+    {
+        if self.is_lossy {
+            return Err(AllocError);
+        }
+        self.is_lossy = true;
+        let message = message.copy()?;
+        self.taken.push(Taken { slot, message })?;
+        self.is_lossy = false;
+        Ok(())
+    }
+
+    /// Returns what is new to a tab that was told the first `from` messages and saw the first `seen` happenings: the next 1,000 messages, and the later happenings
+    /// as far as they are kept. Fails only out of memory. A tab that puts these messages behind those that it has, and asks from there, has a prefix of what was taken.
+    #[tactic(auto, using(crate::proofs::Prefixes::keeps_prefix))]
+    pub fn look(&self, from: usize, seen: u64) -> Result<Look, AllocError>
+        ensures told { IfOk result (λ look. look.taken.items ≡ told_from from self.now.taken) }
+        ensures prefix { IfOk result (λ look. KeepsPrefix from self.now.taken look.taken.items) }
+        ensures happenings { IfOk result (λ look. look.happenings.items ≡ newest (self.now.happenings.count - seen) self.now.happenings.kept) }
+        ensures holes { IfOk result (λ look. map (λ h. h.0) look.holes.items ≡ take NAMED self.now.missing.names) }
+        ensures standing { IfOk result (Shows self.now) }
+    {
+        let taken = copies(self.alloc, told(self.taken.as_slice(), from))?;
+        Ok(Look {
+            taken,
+            happenings: self.happenings.behind(seen)?,
+            happened: self.happenings.count(),
+            missing: self.missing.len(),
+            has_more: self.missing.has_more(),
+            holes: self.holes()?,
+            counts: self.counts,
+            heard: self.heard,
+            is_lossy: self.is_lossy,
+            is_stale: self.is_stale,
+            has_ended: self.has_ended,
+        })
+    }
+
+    /// Whether nothing is new to a tab that was told the first `from` messages and saw the first `seen` happenings, and more may come.
+    pub fn is_old(&self, from: usize, seen: u64) -> bool
+        ensures { result ≡ (nat_le (length self.now.taken) from && self.now.happenings.count == seen && not self.now.has_ended) }
+    {
+        self.taken.len() <= from && self.happenings.count() == seen && !self.has_ended
+    }
+
+    // The first missing drawops, each with the greatest number that came of its stream.
+    fn holes(&self) -> Result<Vec<(Name, u32)>, AllocError>
+        ensures { IfOk result (λ holes. map (λ h. h.0) holes.items ≡ take NAMED self.now.missing.names) }
+    {
+        let mut holes = Vec::new(self.alloc);
+        for name in self.missing.first() {
+            holes.push((*name, self.reach_of(name.stream())))?;
+        }
+        Ok(holes)
+    }
+
+    // The greatest number that came of a stream, or 0.
+    fn reach_of(&self, stream: Stream) -> u32 {
+        self.reached.get(&stream).copied().unwrap_or(0)
+    }
+
+    /// Notes that a drawop was found missing, once or again. Fails only out of memory; nobody is told of it as news then, but it is among the missing, or it is said
+    /// that there are more.
+    pub fn miss(&mut self, name: Name) -> Result<(), AllocError>
+        ensures ok { OnOk result (self.new ≡ missed name self.old) }
+        ensures told { is_told_of self.new.missing name ≡ true }
+        ensures err { OnErr result (self.new ≡ record self.old { missing = self.new.missing }) }
+    {
+        if self.missing.add(name)? {
+            self.happen(Happening::Missed(name))?;
+        }
+        Ok(())
+    }
+
+    /// Notes that a drawop came in a datagram of this member. That is news where it was missing. Fails only out of memory; then nobody is told of it as news.
+    pub fn gain(&mut self, name: Name, by: Member) -> Result<(), AllocError>
+        ensures ok { OnOk result (self.new ≡ gained name by self.old) }
+        ensures err { OnErr result (self.new ≡ record self.old { missing = without_missing name self.old.missing }) }
+    {
+        self.reach(name);
+        if self.missing.remove(name) {
+            self.happen(Happening::Gained(name, by))?;
+        }
+        Ok(())
+    }
+
+    // A drawop of this name came.
+    fn reach(&mut self, name: Name)
+        ensures { self.new ≡ self.old }
+    {
+        let reached = self.reach_of(name.stream()).max(name.number());
+        let _ = self.reached.insert(name.stream(), reached);
+    }
+
+    /// Adds what befell the member; the last 256 are kept. Fails only out of memory, and then nothing has changed.
+    pub fn happen(&mut self, happening: Happening) -> Result<(), AllocError>
+        ensures ok { OnOk result (self.new ≡ happened happening self.old) }
+        ensures err { OnErr result (self.new ≡ self.old) }
+    {
+        self.happenings.push(happening)
+    }
+
+    /// Counts a datagram of this member that came.
+    pub fn hear(&mut self, from: Member)
+        ensures counts { self.new.counts ≡ record self.old.counts { came = one_more self.old.counts.came } }
+        ensures rest { self.new ≡ record self.old { counts = self.new.counts; heard = self.new.heard } }
+    {
+        let heard = &mut self.heard[from.index()];
+        *heard = heard.saturating_add(1);
+        self.counts.came = self.counts.came.saturating_add(1);
+    }
+
+    /// Returns what passed so far, to be counted on.
+    pub fn counts(&self) -> Counts
+        ensures { result ≡ self.now.counts }
+    {
+        self.counts
+    }
+
+    /// Shows these counts from now on.
+    pub fn show_counts(&mut self, counts: Counts)
+        ensures { self.new ≡ record self.old { counts = counts } }
+    {
+        self.counts = counts;
+    }
+
+    /// Notes that others know of strokes that an earlier run of this member drew: they take none that this one draws under the same names.
+    pub fn note_stale(&mut self)
+        ensures { self.new ≡ record self.old { is_stale = true } }
+    {
+        self.is_stale = true;
+    }
+
+    /// Notes that the member's run has ended: nothing more comes.
+    pub fn end(&mut self)
+        ensures { self.new ≡ record self.old { has_ended = true } }
+    {
+        self.has_ended = true;
+    }
+}
+
+// What is told of these messages from a cursor on.
+fn told(taken: &[Taken], from: usize) -> &[Taken]
+    ensures { result.now ≡ told_from from taken.now }
+{
+    first_of(behind(taken, from))
+}
+
+#[tactic(auto, using(crate::proofs::Prefixes::drop_within))]
+fn behind(taken: &[Taken], from: usize) -> &[Taken]
+    ensures { result.now ≡ drop from taken.now }
+{
+    let (_, rest) = taken.split_at(from.min(taken.len()));
+    rest
+}
+
+#[tactic(auto, using(crate::proofs::Prefixes::take_within))]
+fn first_of(taken: &[Taken]) -> &[Taken]
+    ensures { result.now ≡ take TOLD taken.now }
+{
+    let (first, _) = taken.split_at(TOLD.min(taken.len()));
+    first
+}

@@ -1,0 +1,73 @@
+//! What there is to show, which the member's threads write and those of the browsers read.
+
+use crate::look::Look;
+use crate::record::Record;
+use srm_names::PageMsg;
+use std::alloc::{AllocError, Global};
+use std::sync::atomic::{AtomicBool, Ordering};
+use std::sync::{Condvar, CondvarTimeouts, Mutex, MutexGuard, Wait};
+use std::time::{Clock, Duration};
+
+/// A [`Record`] under a lock, and who waits for more of it.
+#[derive(Drop)]
+pub struct Slate {
+    record: Mutex<Record>,
+    changed: Condvar,
+    has_ended: AtomicBool,
+}
+
+impl Slate {
+    /// Makes a slate of nothing. Takes no memory.
+    pub fn new(alloc: Global) -> Slate {
+        Slate {
+            record: Mutex::new(Record::new(alloc)),
+            changed: Condvar::new(),
+            has_ended: AtomicBool::new(false),
+        }
+    }
+
+    /// Locks what there is to show. A caller that changes it drops the lock and then calls [`tell`](Slate::tell).
+    pub fn lock<'a, R: Wait>(&'a self, rt: &R) -> MutexGuard<'a, Record> {
+        self.record.lock(rt)
+    }
+
+    /// Wakes the browsers that wait for something new.
+    pub fn tell(&self) {
+        self.changed.notify_all();
+    }
+
+    /// Adds a message that the page worker of a slot took, and wakes the browsers that wait. Out of memory the record notes that it is lossy.
+    pub fn take<R: Wait>(&self, rt: &R, slot: u8, message: &PageMsg) {
+        // Out of memory: the record says so itself.
+        let _ = self.lock(rt).take(slot, message);
+        self.tell();
+    }
+
+    /// Notes that the member's run has ended, and wakes the browsers that wait.
+    pub fn end<R: Wait>(&self, rt: &R) {
+        self.lock(rt).end();
+        self.has_ended.store(true, Ordering::SeqCst);
+        self.tell();
+    }
+
+    /// Whether the member's run has ended.
+    pub fn has_ended(&self) -> bool {
+        self.has_ended.load(Ordering::SeqCst)
+    }
+
+    /// Waits until something is new to a tab that was told the first `from` messages and saw the first `seen` happenings, or the time is up. Returns what
+    /// [`Record::look`] says then. Fails only out of memory.
+    pub fn look<R: Wait + Clock>(
+        &self,
+        rt: &R,
+        from: usize,
+        seen: u64,
+        time: Duration,
+    ) -> Result<Look, AllocError> {
+        let record = self.record.lock(rt);
+        let (record, _) = self
+            .changed
+            .wait_timeout_while(rt, record, time, |record| record.is_old(from, seen));
+        record.look(from, seen)
+    }
+}

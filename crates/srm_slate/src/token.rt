@@ -1,0 +1,16 @@
+//! The token in a page's address.
+
+use std::alloc::Global;
+use std::io;
+use std::random::RandomSource;
+
+/// The bytes of a token: as many as nobody guesses.
+const BYTES: usize = 16;
+
+/// Makes a token: 32 of `0` to `9` and `a` to `f`, of the system's randomness. Fails if the system has none, or out of memory.
+pub fn new_token<R: RandomSource>(rt: &R, alloc: Global) -> io::Result<String> {
+    let mut bytes = [0_u8; BYTES];
+    rt.fill_bytes(&mut bytes)?;
+    let token = format!(in alloc; "{:032x}", u128::from_be_bytes(bytes))?;
+    Ok(token)
+}
