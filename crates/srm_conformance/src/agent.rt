@@ -25,6 +25,7 @@ use settings::Settings;
 use srm_agent::Agent;
 use srm_timers::Listed;
 use std::alloc::Global;
+use std::io;
 use std::io::Write;
 
 /// Plays the calls of a case.
@@ -47,11 +48,11 @@ struct Calls {
 
 impl Player for Calls {
     fn play<O: Write>(&mut self, mut words: Words<'_>, out: &mut O) -> Result<(), LineFault> {
-        match words.word()? {
+        match words.word() {
             "made" => self.make(words, out),
             "faults" => {
                 words.end()?;
-                tell_faults(out)
+                Ok(tell_faults(out)?)
             }
             word => {
                 if self.settings.read(self.alloc, word, &mut words)? {
@@ -66,14 +67,10 @@ impl Player for Calls {
 impl Calls {
     /// `T`: makes the member, anew where there is one.
     fn make<O: Write>(&mut self, mut words: Words<'_>, out: &mut O) -> Result<(), LineFault> {
-        let now = words.moment()?;
+        let now = words.moment();
         words.end()?;
         self.agent = make(self.alloc, &self.settings, now)?;
-        match self.agent {
-            Some(_) => writeln!(out, "made")?,
-            None => writeln!(out, "refused settings")?,
-        }
-        Ok(())
+        Ok(tell_made(out, self.agent.is_some())?)
     }
 
     /// A call of the member, which is made at 0 where no line made it.
@@ -96,5 +93,13 @@ impl Calls {
             }
             _ => ask(agent, word, words, out),
         }
+    }
+}
+
+fn tell_made<O: Write>(out: &mut O, is_made: bool) -> io::Result<()> {
+    if is_made {
+        writeln!(out, "made")
+    } else {
+        writeln!(out, "refused settings")
     }
 }

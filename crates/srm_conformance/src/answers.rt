@@ -1,9 +1,21 @@
-//! Answers of one word, and numbers that there may be.
+//! How an answer is printed: a word, and behind it a value.
 
-use std::fmt;
+use crate::fault::LineFault;
 use std::fmt::{Display, Formatter};
+use std::io::Write;
+use std::{fmt, io};
 
-/// A number, or `none`.
+/// Prints a line: a word, and behind it a value.
+pub fn tell<O: Write, T: Display>(out: &mut O, word: &str, value: &T) -> Result<(), LineFault> {
+    Ok(writeln!(out, "{word} {value}")?)
+}
+
+/// Prints how far away a member is.
+pub fn tell_distance<O: Write>(out: &mut O, member: usize, distance: u64) -> io::Result<()> {
+    writeln!(out, "distance {member} {distance}")
+}
+
+/// A value, or `none`.
 #[derive(Drop)]
 pub struct Maybe<T>(pub Option<T>);
 

@@ -4,12 +4,12 @@ ghost use Rattle.std.specs.Prelude.{◌≤◌};
 ghost use Rattle.srm_names.specs.declared.limits.TheConstants.{LATEST_MOMENT, LONGEST_DISTANCE};
 ghost use Rattle.srm_timers.specs.declared.limits.TheConstants.{GREATEST_EXPONENT};
 
-use crate::answers::Maybe;
+use crate::answers::{Maybe, tell};
 use crate::fault::{LineFault, PlayFault};
 use crate::lines::{Player, play_lines};
 use crate::names::are_rising;
 use crate::numbered::tell_names;
-use crate::timers::{Choosing, read_waits, tell_arm, tell_arms};
+use crate::timers::{Choosing, read_setting, tell_arm, tell_arms};
 use crate::words::Words;
 use srm_names::{LONGEST_DISTANCE, Name};
 use srm_timers::{Arm, Asks, GREATEST_EXPONENT, Tree};
@@ -35,7 +35,7 @@ struct Calls {
 
 impl Player for Calls {
     fn play<O: Write>(&mut self, mut words: Words<'_>, out: &mut O) -> Result<(), LineFault> {
-        let word = words.word()?;
+        let word = words.word();
         if self.by.read(self.alloc, word, &mut words)? {
             return words.end();
         }
@@ -54,15 +54,17 @@ impl Player for Calls {
 
 impl Calls {
     /// `c1 c2`: timers of which none runs.
-    fn make(&mut self, words: Words<'_>) -> Result<(), LineFault> {
-        let (c1, c2) = read_waits(words)?;
+    fn make(&mut self, mut words: Words<'_>) -> Result<(), LineFault> {
+        let c1 = read_setting(&mut words);
+        let c2 = read_setting(&mut words);
+        words.end()?;
         self.asks = Asks::new(self.alloc, Tree::new(self.alloc), c1, c2);
         Ok(())
     }
 
     /// Any names.
     fn room(&mut self, mut words: Words<'_>) -> Result<(), LineFault> {
-        let names = words.names(self.alloc)?;
+        let names = words.last_names(self.alloc)?;
         if self.asks.room(&names).is_err() {
             self.asks.room(&names)?;
         }
@@ -71,9 +73,9 @@ impl Calls {
 
     /// `T`, then names that were found missing, which rise, then `asked` and those of them for which a request was heard.
     fn detect<O: Write>(&mut self, mut words: Words<'_>, out: &mut O) -> Result<(), LineFault> {
-        let now = words.moment()?;
+        let now = words.moment();
         let names = words.names_before(self.alloc, Some("asked"))?;
-        let asked = words.names(self.alloc)?;
+        let asked = words.last_names(self.alloc)?;
         if !are_rising(&names) {
             return Err(LineFault::Bad);
         }
@@ -96,8 +98,9 @@ impl Calls {
         mut words: Words<'_>,
         out: &mut O,
     ) -> Result<(), LineFault> {
-        let now = words.moment()?;
-        let name = words.last_name()?;
+        let now = words.moment();
+        let name = words.name();
+        words.end()?;
         let distances = self.by.distances.as_slice();
         let arm = self
             .asks
@@ -107,14 +110,16 @@ impl Calls {
 
     /// `S C.P N`.
     fn gained(&mut self, mut words: Words<'_>) -> Result<(), LineFault> {
-        let name = words.last_name()?;
+        let name = words.name();
+        words.end()?;
         self.asks.gained(name);
         Ok(())
     }
 
     /// `T`: the timers that have run out are set again.
     fn due<O: Write>(&mut self, mut words: Words<'_>, out: &mut O) -> Result<(), LineFault> {
-        let now = words.last_moment()?;
+        let now = words.moment();
+        words.end()?;
         let distances = self.by.distances.as_slice();
         let arms = match self.asks.due(now, distances, &mut self.by.words) {
             Err(_) => self.asks.due(now, distances, &mut self.by.words)?,
@@ -125,10 +130,10 @@ impl Calls {
 
     /// `T S C.P N EXPONENT DISTANCE`: a wait is chosen and the timer set, as a caller does that has an order of its own.
     fn set<O: Write>(&mut self, mut words: Words<'_>, out: &mut O) -> Result<(), LineFault> {
-        let now = words.moment()?;
-        let name = words.name()?;
-        let exponent = words.number(u64::from(GREATEST_EXPONENT))? as u8;
-        let distance = words.number(LONGEST_DISTANCE)?;
+        let now = words.moment();
+        let name = words.name();
+        let exponent = words.number(u64::from(GREATEST_EXPONENT)) as u8;
+        let distance = words.number(LONGEST_DISTANCE);
         words.end()?;
         let arm = match self.set_one(now, name, exponent, distance) {
             Err(_) => self.set_one(now, name, exponent, distance)?,
@@ -163,30 +168,34 @@ impl Calls {
         out: &mut O,
     ) -> Result<(), LineFault> {
         match call {
-            "pending" => self.pending(words, out)?,
+            "pending" => self.pending(words, out),
             "next" => {
                 words.end()?;
-                writeln!(out, "due {}", Maybe(self.asks.next()))?;
+                tell(out, "due", &Maybe(self.asks.next()))
             }
             "exponent-when-due" => {
-                let name = words.last_name()?;
-                let exponent = self.asks.exponent_when_due(name);
-                writeln!(out, "exponent {}", Maybe(exponent))?;
+                let name = words.name();
+                words.end()?;
+                tell(out, "exponent", &Maybe(self.asks.exponent_when_due(name)))
             }
             "exponent-when-heard" => {
-                let now = words.moment()?;
-                let name = words.last_name()?;
-                let exponent = self.asks.exponent_when_heard(name, now);
-                writeln!(out, "exponent {}", Maybe(exponent))?;
+                let now = words.moment();
+                let name = words.name();
+                words.end()?;
+                tell(
+                    out,
+                    "exponent",
+                    &Maybe(self.asks.exponent_when_heard(name, now)),
+                )
             }
-            _ => return Err(LineFault::Bad),
+            _ => Err(LineFault::Bad),
         }
-        Ok(())
     }
 
     /// `T`: the names whose timers have run out.
     fn pending<O: Write>(&self, mut words: Words<'_>, out: &mut O) -> Result<(), LineFault> {
-        let now = words.last_moment()?;
+        let now = words.moment();
+        words.end()?;
         let names = match self.asks.pending(now, Vec::new(self.alloc)) {
             Err(_) => self.asks.pending(now, Vec::new(self.alloc))?,
             Ok(names) => names,

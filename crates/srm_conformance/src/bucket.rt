@@ -1,6 +1,6 @@
 //! Calls of a token bucket.
 
-use crate::answers::{Maybe, yes_or_no};
+use crate::answers::{Maybe, tell, yes_or_no};
 use crate::fault::{LineFault, PlayFault};
 use crate::lines::{Player, play_lines};
 use crate::words::Words;
@@ -10,6 +10,8 @@ use srm_bucket::{
 };
 use srm_names::DRAWOPS;
 use std::alloc::Global;
+use std::fmt;
+use std::fmt::{Display, Formatter};
 use std::io::Write;
 
 /// Plays the calls of a case, over a bucket with the rate and the depth that a member has where nobody says else.
@@ -26,7 +28,7 @@ struct Calls {
 
 impl Player for Calls {
     fn play<O: Write>(&mut self, mut words: Words<'_>, out: &mut O) -> Result<(), LineFault> {
-        match words.word()? {
+        match words.word() {
             "bucket" => self.make(words),
             "room" => self.room(words),
             "hand" => self.hand(words),
@@ -40,8 +42,8 @@ impl Player for Calls {
 impl Calls {
     /// `R D`: a bucket of its own, which is full at moment 0.
     fn make(&mut self, mut words: Words<'_>) -> Result<(), LineFault> {
-        let rate = words.number_from(u64::from(LEAST_RATE), u64::from(GREATEST_RATE))?;
-        let depth = words.number_from(u64::from(LEAST_DEPTH), u64::from(GREATEST_DEPTH))?;
+        let rate = words.number_from(u64::from(LEAST_RATE), u64::from(GREATEST_RATE));
+        let depth = words.number_from(u64::from(LEAST_DEPTH), u64::from(GREATEST_DEPTH));
         words.end()?;
         self.bucket = Bucket::new(self.alloc, rate as u32, depth as u32);
         Ok(())
@@ -49,7 +51,7 @@ impl Calls {
 
     /// How many more items are handed in without want of memory.
     fn room(&mut self, mut words: Words<'_>) -> Result<(), LineFault> {
-        let items = words.number(u64::from(DRAWOPS))? as usize;
+        let items = words.number(u64::from(DRAWOPS)) as usize;
         words.end()?;
         if self.bucket.room(items).is_err() {
             self.bucket.room(items)?;
@@ -59,9 +61,9 @@ impl Calls {
 
     /// `CLASS ITEM LENGTH`.
     fn hand(&mut self, mut words: Words<'_>) -> Result<(), LineFault> {
-        let class = read_class(words.word()?)?;
-        let value = words.number(u64::from(u32::MAX))? as u32;
-        let length = words.number_from(u64::from(LEAST_LENGTH), u64::from(GREATEST_LENGTH))?;
+        let class = read_class(words.word())?;
+        let value = words.number(u64::from(u32::MAX)) as u32;
+        let length = words.number_from(u64::from(LEAST_LENGTH), u64::from(GREATEST_LENGTH));
         let length = length as u32;
         words.end()?;
         if self.bucket.hand(class, Item { value, length }).is_err() {
@@ -72,7 +74,7 @@ impl Calls {
 
     /// `T`.
     fn refill(&mut self, mut words: Words<'_>) -> Result<(), LineFault> {
-        let now = words.moment()?;
+        let now = words.moment();
         words.end()?;
         self.bucket.refill(now);
         Ok(())
@@ -80,13 +82,9 @@ impl Calls {
 
     /// `T`: what goes.
     fn pop<O: Write>(&mut self, mut words: Words<'_>, out: &mut O) -> Result<(), LineFault> {
-        let now = words.moment()?;
+        let now = words.moment();
         words.end()?;
-        match self.bucket.pop(now) {
-            Some(item) => writeln!(out, "goes {} {}", item.value, item.length)?,
-            None => writeln!(out, "goes none")?,
-        }
-        Ok(())
+        tell(out, "goes", &PrintedItem(self.bucket.pop(now)))
     }
 
     /// A call that changes nothing.
@@ -99,37 +97,52 @@ impl Calls {
         match call {
             "wait-until" => {
                 words.end()?;
-                writeln!(out, "wait-until {}", Maybe(self.bucket.wait_until()))?;
+                tell(out, call, &Maybe(self.bucket.wait_until()))
             }
             "waiting" => {
-                let class = read_class(words.word()?)?;
+                let class = read_class(words.word())?;
                 words.end()?;
-                writeln!(out, "waiting {}", self.bucket.waiting(class))?;
+                tell(out, call, &self.bucket.waiting(class))
             }
-            "admits" => self.admits(words, out)?,
-            "admits-from" => self.admits_from(words, out)?,
-            _ => return Err(LineFault::Bad),
+            "admits" => self.admits(words, out),
+            "admits-from" => self.admits_from(words, out),
+            _ => Err(LineFault::Bad),
         }
-        Ok(())
     }
 
     /// `CLASS BYTES T`.
     fn admits<O: Write>(&self, mut words: Words<'_>, out: &mut O) -> Result<(), LineFault> {
-        let class = read_class(words.word()?)?;
-        let bytes = words.number(u64::from(u32::MAX))? as u32;
-        let now = words.moment()?;
+        let class = read_class(words.word())?;
+        let bytes = words.number(u64::from(u32::MAX)) as u32;
+        let now = words.moment();
         words.end()?;
         let admits = self.bucket.admits(class, bytes, now);
-        Ok(writeln!(out, "admits {}", yes_or_no(admits))?)
+        tell(out, "admits", &yes_or_no(admits))
     }
 
     /// `CLASS BYTES`.
     fn admits_from<O: Write>(&self, mut words: Words<'_>, out: &mut O) -> Result<(), LineFault> {
-        let class = read_class(words.word()?)?;
-        let bytes = words.number(u64::from(u32::MAX))? as u32;
+        let class = read_class(words.word())?;
+        let bytes = words.number(u64::from(u32::MAX)) as u32;
         words.end()?;
-        let from = self.bucket.admits_from(class, bytes);
-        Ok(writeln!(out, "admits-from {}", Maybe(from))?)
+        tell(
+            out,
+            "admits-from",
+            &Maybe(self.bucket.admits_from(class, bytes)),
+        )
+    }
+}
+
+/// What goes, as it is printed.
+#[derive(Drop)]
+struct PrintedItem(Option<Item<u32>>);
+
+impl Display for PrintedItem {
+    fn fmt<W: fmt::Write>(&self, f: &mut Formatter<W>) -> fmt::Result {
+        match &self.0 {
+            Some(item) => write!(f, "{} {}", item.value, item.length),
+            None => f.write_str("none"),
+        }
     }
 }
 

@@ -45,7 +45,7 @@ struct Codec {
 impl Player for Codec {
     fn play<O: Write>(&mut self, mut words: Words<'_>, out: &mut O) -> Result<(), LineFault> {
         let alloc = self.alloc;
-        match words.word()? {
+        match words.word() {
             "encode" => print_encoded(alloc, &read_datagram(alloc, words)?, out),
             "decode" => print_decoded(alloc, read_changed(alloc, words)?.as_slice(), out),
             "cuts" => print_cuts(alloc, read_bytes(alloc, words)?.as_slice(), out),
@@ -66,23 +66,34 @@ fn read_bytes(alloc: Global, mut words: Words<'_>) -> Result<Vec<u8>, LineFault>
 /// `HEX`, or `HEX with AT BYTE ..`: the bytes, and which others stand at these places, from 0.
 fn read_changed(alloc: Global, mut words: Words<'_>) -> Result<Vec<u8>, LineFault> {
     let mut bytes = words.bytes(alloc)?;
-    if !words.is_empty() && words.word()? != "with" {
+    if !words.is_empty() && words.word() != "with" {
         return Err(LineFault::Bad);
     }
+    change_all(alloc, bytes.as_mut_slice(), &mut words)?;
+    Ok(bytes)
+}
+
+/// `AT BYTE` again and again, with which the line ends.
+fn change_all(alloc: Global, bytes: &mut [u8], words: &mut Words<'_>) -> Result<(), LineFault> {
     // A line has an end.
     for _ in 0..u64::MAX {
         if words.is_empty() {
             break;
         }
-        let at = words.number(u64::from(u32::MAX))? as usize;
-        let byte = words.bytes(alloc)?;
-        let place = bytes.get_mut(at).ok_or(LineFault::Bad)?;
-        let [byte] = byte.as_slice() else {
-            return Err(LineFault::Bad);
-        };
-        *place = *byte;
+        let at = words.number(u64::from(u32::MAX)) as usize;
+        change(bytes, at, words.bytes(alloc)?.as_slice())?;
     }
-    Ok(bytes)
+    words.end()
+}
+
+fn change(bytes: &mut [u8], at: usize, byte: &[u8]) -> Result<(), LineFault> {
+    match (bytes.get_mut(at), byte) {
+        (Some(place), [byte]) => {
+            *place = *byte;
+            Ok(())
+        }
+        _ => Err(LineFault::Bad),
+    }
 }
 
 /// The datagram's length and bytes, or `unspellable`.

@@ -3,7 +3,7 @@
 ghost use Rattle.std.specs.Prelude.{◌≡◌, IfOk};
 ghost use Rattle.srm_deadlines.specs.Places.{names_of};
 
-use crate::answers::Maybe;
+use crate::answers::{Maybe, tell};
 use crate::fault::{LineFault, PlayFault};
 use crate::lines::{Player, play_lines};
 use crate::memory::push;
@@ -42,7 +42,7 @@ struct Calls<D: Deadlines> {
 
 impl<D: Deadlines> Player for Calls<D> {
     fn play<O: Write>(&mut self, mut words: Words<'_>, out: &mut O) -> Result<(), LineFault> {
-        match words.word()? {
+        match words.word() {
             "body" => read_body(words),
             "set" => self.set(words),
             "set-all" => self.set_all(words),
@@ -50,10 +50,7 @@ impl<D: Deadlines> Player for Calls<D> {
             "clear-all" => self.clear_all(words),
             "get" => self.get(words, out),
             "due" => self.due(words, out),
-            "next" => {
-                words.end()?;
-                Ok(writeln!(out, "due {}", Maybe(self.deadlines.next()))?)
-            }
+            "next" => self.next(words, out),
             _ => Err(LineFault::Bad),
         }
     }
@@ -61,7 +58,7 @@ impl<D: Deadlines> Player for Calls<D> {
 
 /// The body is chosen before the first line is played.
 fn read_body(mut words: Words<'_>) -> Result<(), LineFault> {
-    match words.word()? {
+    match words.word() {
         "scanned" | "ordered" | "tree" => words.end(),
         _ => Err(LineFault::Bad),
     }
@@ -70,8 +67,8 @@ fn read_body(mut words: Words<'_>) -> Result<(), LineFault> {
 impl<D: Deadlines> Calls<D> {
     /// `S C.P N T`: the moment of a name, which gets a place for it.
     fn set(&mut self, mut words: Words<'_>) -> Result<(), LineFault> {
-        let name = words.name()?;
-        let moment = words.moment()?;
+        let name = words.name();
+        let moment = words.moment();
         words.end()?;
         if self.deadlines.room(&[name]).is_err() {
             self.deadlines.room(&[name])?;
@@ -82,7 +79,7 @@ impl<D: Deadlines> Calls<D> {
 
     /// The same of several names, which rise, in one call.
     fn set_all(&mut self, mut words: Words<'_>) -> Result<(), LineFault> {
-        let moments = read_moments(self.alloc, &mut words)?;
+        let moments = last_moments(self.alloc, &mut words)?;
         let names = match names_of(self.alloc, &moments) {
             Err(_) => names_of(self.alloc, &moments)?,
             Ok(names) => names,
@@ -99,7 +96,7 @@ impl<D: Deadlines> Calls<D> {
 
     /// `S C.P N`.
     fn clear(&mut self, mut words: Words<'_>) -> Result<(), LineFault> {
-        let name = words.name()?;
+        let name = words.name();
         words.end()?;
         self.deadlines.clear(name);
         Ok(())
@@ -107,7 +104,7 @@ impl<D: Deadlines> Calls<D> {
 
     /// Any names, which rise.
     fn clear_all(&mut self, mut words: Words<'_>) -> Result<(), LineFault> {
-        let names = words.names(self.alloc)?;
+        let names = words.last_names(self.alloc)?;
         if !are_rising(&names) {
             return Err(LineFault::Bad);
         }
@@ -117,14 +114,20 @@ impl<D: Deadlines> Calls<D> {
 
     /// `S C.P N`: the moment of a name.
     fn get<O: Write>(&self, mut words: Words<'_>, out: &mut O) -> Result<(), LineFault> {
-        let name = words.name()?;
+        let name = words.name();
         words.end()?;
-        Ok(writeln!(out, "moment {}", Maybe(self.deadlines.get(name)))?)
+        tell(out, "moment", &Maybe(self.deadlines.get(name)))
+    }
+
+    /// The first moment of all.
+    fn next<O: Write>(&self, words: Words<'_>, out: &mut O) -> Result<(), LineFault> {
+        words.end()?;
+        tell(out, "due", &Maybe(self.deadlines.next()))
     }
 
     /// `T`: the names whose moments have come.
     fn due<O: Write>(&self, mut words: Words<'_>, out: &mut O) -> Result<(), LineFault> {
-        let now = words.moment()?;
+        let now = words.moment();
         words.end()?;
         let mut names = Vec::new(self.alloc);
         if self.deadlines.due(now, &mut names).is_err() {
@@ -134,18 +137,19 @@ impl<D: Deadlines> Calls<D> {
     }
 }
 
-/// `S C.P N T` again and again, up to the end of the line.
-fn read_moments(alloc: Global, words: &mut Words<'_>) -> Result<Vec<Timed>, LineFault> {
+/// `S C.P N T` again and again, with which the line ends.
+fn last_moments(alloc: Global, words: &mut Words<'_>) -> Result<Vec<Timed>, LineFault> {
     let mut moments = Vec::new(alloc);
     // A line ends, but a loop is to show it.
     for _ in 0..u64::MAX {
         if words.is_empty() {
             break;
         }
-        let name = words.name()?;
-        let moment = words.moment()?;
+        let name = words.name();
+        let moment = words.moment();
         push(&mut moments, Timed { name, moment })?;
     }
+    words.end()?;
     Ok(moments)
 }
 

@@ -38,12 +38,12 @@ impl DistanceTable {
 
     /// `D` for all members, or `M D` for one.
     pub fn read(&mut self, words: &mut Words<'_>) -> Result<(), LineFault> {
-        let first = words.number(LONGEST_DISTANCE)?;
+        let first = words.number(LONGEST_DISTANCE);
         if words.is_empty() {
             self.set_all(first);
-            return Ok(());
+            return words.end();
         }
-        let distance = words.number(LONGEST_DISTANCE)?;
+        let distance = words.number(LONGEST_DISTANCE);
         words.end()?;
         let member = u8::try_from(first).ok().and_then(Member::new);
         self.set(member.ok_or(LineFault::Bad)?, distance);

@@ -3,11 +3,11 @@
 ghost use Rattle.std.specs.Prelude.{◌≤◌};
 ghost use Rattle.srm_names.specs.declared.limits.TheConstants.{LATEST_MOMENT, LONGEST_DISTANCE};
 
-use crate::answers::{Maybe, yes_or_no};
+use crate::answers::{Maybe, tell, yes_or_no};
 use crate::fault::{LineFault, PlayFault};
 use crate::lines::{Player, play_lines};
 use crate::numbered::tell_names;
-use crate::timers::{Choosing, read_waits, tell_arm};
+use crate::timers::{Choosing, read_setting, tell_arm};
 use crate::words::Words;
 use srm_names::{LONGEST_DISTANCE, Member, Name};
 use srm_timers::{Arm, Fixes, Tree};
@@ -33,7 +33,7 @@ struct Calls {
 
 impl Player for Calls {
     fn play<O: Write>(&mut self, mut words: Words<'_>, out: &mut O) -> Result<(), LineFault> {
-        let word = words.word()?;
+        let word = words.word();
         if self.by.read(self.alloc, word, &mut words)? {
             return words.end();
         }
@@ -53,15 +53,17 @@ impl Player for Calls {
 
 impl Calls {
     /// `d1 d2`: timers of which none runs.
-    fn make(&mut self, words: Words<'_>) -> Result<(), LineFault> {
-        let (d1, d2) = read_waits(words)?;
+    fn make(&mut self, mut words: Words<'_>) -> Result<(), LineFault> {
+        let d1 = read_setting(&mut words);
+        let d2 = read_setting(&mut words);
+        words.end()?;
         self.fixes = Fixes::new(self.alloc, Tree::new(self.alloc), d1, d2);
         Ok(())
     }
 
     /// Any names.
     fn room(&mut self, mut words: Words<'_>) -> Result<(), LineFault> {
-        let names = words.names(self.alloc)?;
+        let names = words.last_names(self.alloc)?;
         if self.fixes.room(&names).is_err() {
             self.fixes.room(&names)?;
         }
@@ -74,10 +76,11 @@ impl Calls {
         mut words: Words<'_>,
         out: &mut O,
     ) -> Result<(), LineFault> {
-        let now = words.moment()?;
-        let from = words.member()?;
-        let held = read_held(words.word()?)?;
-        let name = words.last_name()?;
+        let now = words.moment();
+        let from = words.member();
+        let held = read_held(words.word())?;
+        let name = words.name();
+        words.end()?;
         let distances = self.by.distances.as_slice();
         let fixes = &mut self.fixes;
         let arm = match fixes.heard_request(name, from, held, distances, now, &mut self.by.words) {
@@ -89,8 +92,9 @@ impl Calls {
 
     /// `T S C.P N`: a repair of another is heard.
     fn heard_repair(&mut self, mut words: Words<'_>) -> Result<(), LineFault> {
-        let now = words.moment()?;
-        let name = words.last_name()?;
+        let now = words.moment();
+        let name = words.name();
+        words.end()?;
         let distances = self.by.distances.as_slice();
         if self.fixes.heard_repair(name, distances, now).is_err() {
             self.fixes.heard_repair(name, distances, now)?;
@@ -100,7 +104,8 @@ impl Calls {
 
     /// `T`: the names whose timers have run out are to be repaired.
     fn due<O: Write>(&mut self, mut words: Words<'_>, out: &mut O) -> Result<(), LineFault> {
-        let now = words.last_moment()?;
+        let now = words.moment();
+        words.end()?;
         let distances = self.by.distances.as_slice();
         let names = match self.fixes.due(now, distances) {
             Err(_) => self.fixes.due(now, distances)?,
@@ -111,9 +116,9 @@ impl Calls {
 
     /// `T S C.P N DISTANCE`: a wait is chosen and the timer set, as a caller does that has an order of its own.
     fn set<O: Write>(&mut self, mut words: Words<'_>, out: &mut O) -> Result<(), LineFault> {
-        let now = words.moment()?;
-        let name = words.name()?;
-        let distance = words.number(LONGEST_DISTANCE)?;
+        let now = words.moment();
+        let name = words.name();
+        let distance = words.number(LONGEST_DISTANCE);
         words.end()?;
         let arm = match self.set_one(now, name, distance) {
             Err(_) => self.set_one(now, name, distance)?,
@@ -135,8 +140,9 @@ impl Calls {
 
     /// `M S C.P N`: a member asked for a name.
     fn note_asker(&mut self, mut words: Words<'_>) -> Result<(), LineFault> {
-        let from = words.member()?;
-        let name = words.last_name()?;
+        let from = words.member();
+        let name = words.name();
+        words.end()?;
         if self.fixes.make_place(name).is_err() {
             self.fixes.make_place(name)?;
         }
@@ -146,9 +152,9 @@ impl Calls {
 
     /// `T S C.P N DISTANCE`: a name was repaired, and is held off by this distance.
     fn repaired(&mut self, mut words: Words<'_>) -> Result<(), LineFault> {
-        let now = words.moment()?;
-        let name = words.name()?;
-        let distance = words.number(LONGEST_DISTANCE)?;
+        let now = words.moment();
+        let name = words.name();
+        let distance = words.number(LONGEST_DISTANCE);
         words.end()?;
         if self.fixes.make_place(name).is_err() {
             self.fixes.make_place(name)?;
@@ -165,29 +171,30 @@ impl Calls {
         out: &mut O,
     ) -> Result<(), LineFault> {
         match call {
-            "pending" => self.pending(words, out)?,
+            "pending" => self.pending(words, out),
             "next" => {
                 words.end()?;
-                writeln!(out, "due {}", Maybe(self.fixes.next()))?;
+                tell(out, "due", &Maybe(self.fixes.next()))
             }
             "free" => {
-                let now = words.moment()?;
-                let name = words.last_name()?;
-                writeln!(out, "free {}", yes_or_no(self.fixes.is_free(name, now)))?;
+                let now = words.moment();
+                let name = words.name();
+                words.end()?;
+                tell(out, call, &yes_or_no(self.fixes.is_free(name, now)))
             }
             "first-asker" => {
-                let name = words.last_name()?;
-                let asker = self.fixes.first_asker(name);
-                writeln!(out, "first-asker {}", asker.number())?;
+                let name = words.name();
+                words.end()?;
+                tell(out, call, &self.fixes.first_asker(name).number())
             }
-            _ => return Err(LineFault::Bad),
+            _ => Err(LineFault::Bad),
         }
-        Ok(())
     }
 
     /// `T`: the names whose timers have run out.
     fn pending<O: Write>(&self, mut words: Words<'_>, out: &mut O) -> Result<(), LineFault> {
-        let now = words.last_moment()?;
+        let now = words.moment();
+        words.end()?;
         let names = match self.fixes.pending(now, Vec::new(self.alloc)) {
             Err(_) => self.fixes.pending(now, Vec::new(self.alloc))?,
             Ok(names) => names,

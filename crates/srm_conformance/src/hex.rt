@@ -28,15 +28,18 @@ pub fn read_hex(alloc: Global, text: &str) -> Result<Vec<u8>, LineFault> {
         return Ok(Vec::new(alloc));
     }
     let mut bytes = with_room(alloc, text.len() / 2)?;
-    for pair in text.as_bytes().chunks(2) {
-        let [high, low] = pair else {
-            return Err(LineFault::Bad);
-        };
-        let high = read_digit(*high).ok_or(LineFault::Bad)?;
-        let low = read_digit(*low).ok_or(LineFault::Bad)?;
-        bytes.push(high << 4 | low).map_err(AllocError::from)?;
+    for digits in text.as_bytes().chunks(2) {
+        let byte = read_byte(digits).ok_or(LineFault::Bad)?;
+        bytes.push(byte).map_err(AllocError::from)?;
     }
     Ok(bytes)
+}
+
+fn read_byte(digits: &[u8]) -> Option<u8> {
+    match digits {
+        [high, low] => Some(read_digit(*high)? << 4 | read_digit(*low)?),
+        _ => None,
+    }
 }
 
 fn read_digit(digit: u8) -> Option<u8> {

@@ -1,6 +1,7 @@
 //! Allocations of the player's own. One that is refused is made once more, so that a run in which a single allocation is refused ends as any
 //! other.
 
+use bytes::Bytes;
 use std::alloc::{AllocError, Global};
 
 /// No bytes, with room for so many.
@@ -8,6 +9,14 @@ pub fn with_room(alloc: Global, bytes: usize) -> Result<Vec<u8>, AllocError> {
     match Vec::with_capacity(alloc, bytes) {
         Err(_) => Vec::with_capacity(alloc, bytes),
         made => made,
+    }
+}
+
+/// A copy of bytes.
+pub fn copied(alloc: Global, bytes: &[u8]) -> Result<Bytes, AllocError> {
+    match Bytes::copy_from_slice(alloc, bytes) {
+        Err(_) => Bytes::copy_from_slice(alloc, bytes),
+        body => body,
     }
 }
 

@@ -1,8 +1,7 @@
 //! Ranges of numbers, as lines say and print them.
 
-ghost use Rattle.std.specs.Prelude.{◌≤◌, IfOk};
+ghost use Rattle.std.specs.Prelude.{◌≤◌, IfSome};
 
-use crate::fault::LineFault;
 use crate::words::read_number;
 use std::fmt;
 use std::fmt::{Display, Formatter};
@@ -16,16 +15,16 @@ pub struct Range {
 
 impl Range {
     /// A number, or two with `..` between them, the second of which isn't below the first.
-    pub fn read(text: &str, greatest: u32) -> Result<Range, LineFault>
-        ensures { IfOk result (λ range. range.last ≤ greatest) }
+    pub fn read(text: &str, greatest: u32) -> Option<Range>
+        ensures { IfSome result (λ range. range.last ≤ greatest) }
     {
         let (first, last) = text.split_once("..").unwrap_or((text, text));
-        let first = read_number(first, u64::from(greatest)).ok_or(LineFault::Bad)? as u32;
-        let last = read_number(last, u64::from(greatest)).ok_or(LineFault::Bad)? as u32;
+        let first = read_number(first, u64::from(greatest))? as u32;
+        let last = read_number(last, u64::from(greatest))? as u32;
         if last < first {
-            return Err(LineFault::Bad);
+            return None;
         }
-        Ok(Range { first, last })
+        Some(Range { first, last })
     }
 }
 

@@ -1,17 +1,22 @@
 //! Calls of a store.
 
-use crate::answers::{Maybe, yes_or_no};
+ghost use Rattle.std.specs.Prelude.{◌≤◌};
+ghost use Rattle.srm_names.specs.declared.limits.TheConstants.{DRAWOPS};
+
+use crate::answers::{Maybe, tell, yes_or_no};
 use crate::fault::{LineFault, PlayFault};
 use crate::hex::Hex;
 use crate::lines::{Player, play_lines};
-use crate::memory::push;
+use crate::memory::{copied, push};
 use crate::numbered::tell_names;
 use crate::ranges::Range;
 use crate::words::Words;
 use bytes::Bytes;
-use srm_names::{DRAWOPS, Drawop, Name, Stream};
+use srm_names::{Drawop, Name, Stream};
 use srm_store::{Insert, Store, StoreFault};
 use std::alloc::Global;
+use std::fmt;
+use std::fmt::{Display, Formatter};
 use std::io::Write;
 
 /// Plays the calls of a case, the first of which is made of an empty store.
@@ -31,7 +36,7 @@ struct Calls {
 
 impl Player for Calls {
     fn play<O: Write>(&mut self, mut words: Words<'_>, out: &mut O) -> Result<(), LineFault> {
-        match words.word()? {
+        match words.word() {
             "insert" => self.insert(words, out),
             "evidence" => self.evidence(words, out),
             "learn" => self.learn(words, out),
@@ -47,22 +52,32 @@ impl Player for Calls {
 impl Calls {
     /// `S C.P N STAMP BODY`, or `N..M` for several, one by one.
     fn insert<O: Write>(&mut self, mut words: Words<'_>, out: &mut O) -> Result<(), LineFault> {
-        let stream = words.stream()?;
-        let Range { first, last } = words.numbers()?;
-        let stamp = words.moment()?;
+        let stream = words.stream();
+        let numbers = words.numbers();
+        let stamp = words.moment();
         let bytes = words.bytes(self.alloc)?;
         words.end()?;
-        let body = match Bytes::copy_from_slice(self.alloc, &bytes) {
-            Err(_) => Bytes::copy_from_slice(self.alloc, &bytes)?,
-            Ok(body) => body,
-        };
+        let body = copied(self.alloc, &bytes)?;
+        let inserted = self.insert_each(stream, numbers, stamp, &body)?;
+        tell_inserted(out, &inserted)
+    }
+
+    fn insert_each(
+        &mut self,
+        stream: Stream,
+        numbers: Range,
+        stamp: u64,
+        body: &Bytes,
+    ) -> Result<Vec<Inserted>, LineFault>
+        requires { numbers.last ≤ DRAWOPS }
+    {
         let mut inserted = Vec::new(self.alloc);
-        for number in first..last + 1 {
+        for number in numbers.first..numbers.last + 1 {
             let name = stream.at(number).ok_or(LineFault::Bad)?;
-            let answer = self.insert_one(name, stamp, &body);
+            let answer = self.insert_one(name, stamp, body);
             push(&mut inserted, Inserted { number, answer })?;
         }
-        tell_inserted(out, &inserted)
+        Ok(inserted)
     }
 
     fn insert_one(&mut self, name: Name, stamp: u64, body: &Bytes) -> Result<Insert, StoreFault> {
@@ -79,7 +94,7 @@ impl Calls {
 
     /// `S C.P N`: the names that become missing.
     fn evidence<O: Write>(&mut self, mut words: Words<'_>, out: &mut O) -> Result<(), LineFault> {
-        let name = words.name()?;
+        let name = words.name();
         words.end()?;
         let shown = match self.store.evidence(name) {
             Err(StoreFault::Memory) => self.store.evidence(name),
@@ -93,14 +108,14 @@ impl Calls {
 
     /// `S C.P N`.
     fn learn<O: Write>(&mut self, mut words: Words<'_>, out: &mut O) -> Result<(), LineFault> {
-        let name = words.name()?;
+        let name = words.name();
         words.end()?;
         tell_done(out, self.store.learn(name))
     }
 
     /// Any names.
     fn room<O: Write>(&mut self, mut words: Words<'_>, out: &mut O) -> Result<(), LineFault> {
-        let names = words.names(self.alloc)?;
+        let names = words.last_names(self.alloc)?;
         let made = match self.store.room(&names) {
             Err(StoreFault::Memory) => self.store.room(&names),
             made => made,
@@ -114,7 +129,7 @@ impl Calls {
         mut words: Words<'_>,
         out: &mut O,
     ) -> Result<(), LineFault> {
-        let names = words.names(self.alloc)?;
+        let names = words.last_names(self.alloc)?;
         let made = match self.store.room_to_learn(&names) {
             Err(StoreFault::Memory) => self.store.room_to_learn(&names),
             made => made,
@@ -124,8 +139,8 @@ impl Calls {
 
     /// A member that left, and any rows of its streams.
     fn settle<O: Write>(&mut self, mut words: Words<'_>, out: &mut O) -> Result<(), LineFault> {
-        let member = words.member()?;
-        let rows = words.names(self.alloc)?;
+        let member = words.member();
+        let rows = words.last_names(self.alloc)?;
         let settled = match self.store.settle_final(member, &rows) {
             Err(StoreFault::Memory) => self.store.settle_final(member, &rows),
             settled => settled,
@@ -140,32 +155,23 @@ impl Calls {
         mut words: Words<'_>,
         out: &mut O,
     ) -> Result<(), LineFault> {
-        let stream = words.stream()?;
         match call {
-            "holds" | "get" => {
-                let number = words.number(u64::from(DRAWOPS))?;
+            "holds" => {
+                let name = words.name();
                 words.end()?;
-                let name = stream.at(number as u32).ok_or(LineFault::Bad)?;
-                self.tell_held(out, call, name)
+                tell(out, call, &yes_or_no(self.store.holds(name)))
+            }
+            "get" => {
+                let name = words.name();
+                words.end()?;
+                tell(out, "held", &PrintedDrawop(self.store.get(name)))
             }
             _ => {
+                let stream = words.stream();
                 words.end()?;
                 self.tell_stream(out, call, stream)
             }
         }
-    }
-
-    /// What is held under a name.
-    fn tell_held<O: Write>(&self, out: &mut O, call: &str, name: Name) -> Result<(), LineFault> {
-        if call == "holds" {
-            writeln!(out, "holds {}", yes_or_no(self.store.holds(name)))?;
-            return Ok(());
-        }
-        match self.store.get(name) {
-            Some(drawop) => writeln!(out, "held {} {}", drawop.stamp, Hex(&drawop.body))?,
-            None => writeln!(out, "held none")?,
-        }
-        Ok(())
     }
 
     /// What is held and known of a stream.
@@ -176,13 +182,12 @@ impl Calls {
         stream: Stream,
     ) -> Result<(), LineFault> {
         match call {
-            "missing" => self.tell_missing(out, stream)?,
-            "known" => writeln!(out, "known {}", self.store.known(stream))?,
-            "released" => writeln!(out, "released {}", self.store.released(stream))?,
-            "final" => writeln!(out, "final {}", Maybe(self.store.final_of(stream)))?,
-            _ => return Err(LineFault::Bad),
+            "missing" => self.tell_missing(out, stream),
+            "known" => tell(out, call, &self.store.known(stream)),
+            "released" => tell(out, call, &self.store.released(stream)),
+            "final" => tell(out, call, &Maybe(self.store.final_of(stream))),
+            _ => Err(LineFault::Bad),
         }
-        Ok(())
     }
 
     fn tell_missing<O: Write>(&self, out: &mut O, stream: Stream) -> Result<(), LineFault> {
@@ -193,6 +198,19 @@ impl Calls {
         match missing {
             Ok(names) => Ok(tell_names(out, "missing", &names)?),
             Err(fault) => tell_refused(out, fault),
+        }
+    }
+}
+
+/// What is held under a name, as it is printed.
+#[derive(Drop)]
+struct PrintedDrawop<'a>(Option<&'a Drawop>);
+
+impl Display for PrintedDrawop<'_> {
+    fn fmt<W: fmt::Write>(&self, f: &mut Formatter<W>) -> fmt::Result {
+        match self.0 {
+            Some(drawop) => write!(f, "{} {}", drawop.stamp, Hex(&drawop.body)),
+            None => f.write_str("none"),
         }
     }
 }
@@ -249,7 +267,7 @@ fn tell_done<O: Write>(out: &mut O, done: Result<(), StoreFault>) -> Result<(), 
 fn tell_refused<O: Write>(out: &mut O, fault: StoreFault) -> Result<(), LineFault> {
     match fault {
         StoreFault::Memory => Err(LineFault::Memory),
-        StoreFault::PageLimit => Ok(writeln!(out, "refused {}", fault_word(fault))?),
+        StoreFault::PageLimit => tell(out, "refused", &fault_word(fault)),
     }
 }
 

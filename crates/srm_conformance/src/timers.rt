@@ -1,6 +1,6 @@
 //! What the calls of request timers and of repair timers have in common.
 
-ghost use Rattle.std.specs.Prelude.{◌≤◌, IfOk};
+ghost use Rattle.std.specs.Prelude.{◌≤◌};
 ghost use Rattle.srm_timers.specs.declared.limits.TheConstants.{GREATEST_TIMER_SETTING};
 
 use crate::distances::DistanceTable;
@@ -44,20 +44,16 @@ impl Choosing {
     }
 }
 
-/// Two settings of timers, with which the line ends: a wait is at least so many distances, and so many more at most.
-pub fn read_waits(mut words: Words<'_>) -> Result<(u8, u8), LineFault>
-    ensures least { IfOk result (λ waits. waits.0 ≤ GREATEST_TIMER_SETTING) }
-    ensures more { IfOk result (λ waits. waits.1 ≤ GREATEST_TIMER_SETTING) }
+/// A setting of timers: a wait is at least so many distances, or so many more at most.
+pub fn read_setting(words: &mut Words<'_>) -> u8
+    ensures { result ≤ GREATEST_TIMER_SETTING }
 {
-    let least = words.number(u64::from(GREATEST_TIMER_SETTING))? as u8;
-    let more = words.number(u64::from(GREATEST_TIMER_SETTING))? as u8;
-    words.end()?;
-    Ok((least, more))
+    words.number(u64::from(GREATEST_TIMER_SETTING)) as u8
 }
 
-/// Reads all numbers up to the end of the line: the words by which waits are chosen. Behind them come zeros.
+/// The words by which waits are chosen, with which the line ends. Behind them come zeros.
 pub fn read_listed(alloc: Global, words: &mut Words<'_>) -> Result<Listed, LineFault> {
-    Ok(Listed::new(words.numbers_left(alloc)?))
+    Ok(Listed::new(words.last_numbers(alloc)?))
 }
 
 /// Prints a line for each timer that was set: what for, the name, the exponent, the wait, and the distance by which it was chosen.

@@ -2,6 +2,7 @@
 
 ghost use Rattle.std.specs.Prelude.{◌≤◌, ◌<◌, ◌^◌};
 
+use crate::answers::tell;
 use crate::fault::{LineFault, PlayFault};
 use crate::lines::{Player, play_lines};
 use crate::timers::read_listed;
@@ -34,20 +35,18 @@ const LONGEST: u64 = (1 << 63) - 1;
 
 impl Player for Calls {
     fn play<O: Write>(&mut self, mut words: LineWords<'_>, out: &mut O) -> Result<(), LineFault> {
-        match words.word()? {
+        match words.word() {
             "words" => {
                 self.source = Source::Listed(read_listed(self.alloc, &mut words)?);
                 Ok(())
             }
             "seed" => {
-                let seed = words.number(u64::MAX)?;
-                words.end()?;
-                self.source = Source::Generated(Pcg::new(seed));
-                Ok(())
+                self.source = Source::Generated(Pcg::new(words.number(u64::MAX)));
+                words.end()
             }
             "word" => {
                 words.end()?;
-                Ok(writeln!(out, "word {}", self.source.word())?)
+                tell(out, "word", &self.source.word())
             }
             "wait" => self.wait(words, out),
             _ => Err(LineFault::Bad),
@@ -58,10 +57,10 @@ impl Player for Calls {
 impl Calls {
     /// `LEAST GREATEST`: a wait between the two, both included.
     fn wait<O: Write>(&mut self, mut words: LineWords<'_>, out: &mut O) -> Result<(), LineFault> {
-        let low = words.number(LONGEST)?;
-        let high = words.number_from(low, LONGEST)?;
+        let low = words.number(LONGEST);
+        let high = words.number_from(low, LONGEST);
         words.end()?;
-        Ok(writeln!(out, "wait {}", self.source.wait(low, high))?)
+        tell(out, "wait", &self.source.wait(low, high))
     }
 }
 

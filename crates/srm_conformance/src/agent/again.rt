@@ -184,13 +184,6 @@ pub fn spell(alloc: Global, session: u32, datagram: &Datagram) -> Result<Vec<u8>
     }
 }
 
-pub fn copied(alloc: Global, bytes: &[u8]) -> Result<Bytes, AllocError> {
-    match Bytes::copy_from_slice(alloc, bytes) {
-        Err(_) => Bytes::copy_from_slice(alloc, bytes),
-        body => body,
-    }
-}
-
 /// An equal body, over the same bytes.
 pub fn shared(body: &Bytes) -> Result<Bytes, AllocError> {
     match shared_once(body) {

@@ -1,27 +1,12 @@
 //! Calls that change nothing.
 
+use crate::answers::{Maybe, tell, tell_distance, yes_or_no};
 use crate::fault::LineFault;
 use crate::numbered::PrintedPage;
 use crate::words::Words;
 use srm_agent::{Agent, AgentState};
-use srm_names::LATEST_MOMENT;
 use srm_timers::Listed;
-use std::fmt;
-use std::fmt::{Display, Formatter};
 use std::io::Write;
-
-/// A moment, or none.
-#[derive(Drop)]
-struct PrintedMoment(Option<u64>);
-
-impl Display for PrintedMoment {
-    fn fmt<W: fmt::Write>(&self, f: &mut Formatter<W>) -> fmt::Result {
-        match self.0 {
-            Some(moment) => write!(f, "{moment}"),
-            None => f.write_str("none"),
-        }
-    }
-}
 
 /// The word for what the member does now.
 pub fn state_word(state: AgentState) -> &'static str {
@@ -42,7 +27,7 @@ pub fn ask<O: Write>(
     match word {
         "admits" => tell_admits(agent, words, out),
         "admits-from" => tell_admits_from(agent, words, out),
-        "distance" => tell_distance(agent, words, out),
+        "distance" => tell_distance_to(agent, words, out),
         _ => {
             words.end()?;
             tell_now(agent, word, out)
@@ -53,20 +38,11 @@ pub fn ask<O: Write>(
 /// The calls without arguments.
 fn tell_now<O: Write>(agent: &Agent<Listed>, word: &str, out: &mut O) -> Result<(), LineFault> {
     match word {
-        "next" => writeln!(out, "due {}", PrintedMoment(agent.next_due()))?,
-        "state" => writeln!(out, "state {}", state_word(agent.state()))?,
-        "new-page" => tell_new_page(agent, out)?,
-        _ => return Err(LineFault::Bad),
+        "next" => tell(out, "due", &Maybe(agent.next_due())),
+        "state" => tell(out, word, &state_word(agent.state())),
+        "new-page" => tell(out, "page", &Maybe(agent.new_page().map(PrintedPage))),
+        _ => Err(LineFault::Bad),
     }
-    Ok(())
-}
-
-fn tell_new_page<O: Write>(agent: &Agent<Listed>, out: &mut O) -> Result<(), LineFault> {
-    match agent.new_page() {
-        Some(page) => writeln!(out, "page {}", PrintedPage(page))?,
-        None => writeln!(out, "page none")?,
-    }
-    Ok(())
 }
 
 /// `T N`: whether a body of so many bytes is admitted at a moment.
@@ -75,15 +51,11 @@ fn tell_admits<O: Write>(
     mut words: Words<'_>,
     out: &mut O,
 ) -> Result<(), LineFault> {
-    let now = words.number(LATEST_MOMENT)?;
-    let length = words.number(u64::from(u32::MAX))?;
+    let now = words.moment();
+    let length = words.number(u64::from(u32::MAX));
     words.end()?;
-    let answer = if agent.admits_draw(length as usize, now) {
-        "yes"
-    } else {
-        "no"
-    };
-    Ok(writeln!(out, "admits {answer}")?)
+    let admits = agent.admits_draw(length as usize, now);
+    tell(out, "admits", &yes_or_no(admits))
 }
 
 /// `N`: from when on it is.
@@ -92,20 +64,19 @@ fn tell_admits_from<O: Write>(
     mut words: Words<'_>,
     out: &mut O,
 ) -> Result<(), LineFault> {
-    let length = words.number(u64::from(u32::MAX))?;
+    let length = words.number(u64::from(u32::MAX));
     words.end()?;
-    let from = PrintedMoment(agent.admits_draw_from(length as usize));
-    Ok(writeln!(out, "admits-from {from}")?)
+    let from = agent.admits_draw_from(length as usize);
+    tell(out, "admits-from", &Maybe(from))
 }
 
 /// `M`: the distance to a member, by which timers wait.
-fn tell_distance<O: Write>(
+fn tell_distance_to<O: Write>(
     agent: &Agent<Listed>,
     mut words: Words<'_>,
     out: &mut O,
 ) -> Result<(), LineFault> {
-    let member = words.member()?;
+    let member = words.member();
     words.end()?;
-    let distance = agent.distance(member);
-    Ok(writeln!(out, "distance {} {distance}", member.number())?)
+    Ok(tell_distance(out, member.index(), agent.distance(member))?)
 }

@@ -1,7 +1,7 @@
 //! Texts of bodies.
 
-use super::again::copied;
 use crate::fault::LineFault;
+use crate::memory::copied;
 use crate::words::read_number;
 use bytes::Bytes;
 use std::alloc::{AllocError, Global};

@@ -5,6 +5,7 @@ use super::bodies::read_body;
 use super::fault_words::tell_refused;
 use super::printed::PrintedMessage;
 use super::telling::tell_ticked;
+use crate::answers::tell;
 use crate::fault::LineFault;
 use crate::numbered::{Numbered, PrintedPage};
 use crate::words::Words;
@@ -39,9 +40,9 @@ fn draw<O: Write>(
     mut words: Words<'_>,
     out: &mut O,
 ) -> Result<(), LineFault> {
-    let now = words.moment()?;
-    let page = words.page()?;
-    let body = read_body(alloc, words.left())?;
+    let now = words.moment();
+    let page = words.page();
+    let body = read_body(alloc, words.text()?)?;
     let drawn = again::draw(agent, &page, &body, now);
     tell_drawn(out, drawn)
 }
@@ -52,8 +53,8 @@ fn show<O: Write>(
     mut words: Words<'_>,
     out: &mut O,
 ) -> Result<(), LineFault> {
-    let now = words.moment()?;
-    let page = words.page()?;
+    let now = words.moment();
+    let page = words.page();
     words.end()?;
     let shown = again::show(agent, &page, now);
     tell_shown(out, &page, shown)
@@ -65,7 +66,7 @@ fn leave<O: Write>(
     mut words: Words<'_>,
     out: &mut O,
 ) -> Result<(), LineFault> {
-    let now = words.moment()?;
+    let now = words.moment();
     words.end()?;
     let left = again::leave(agent, now);
     tell_left(out, left)
@@ -77,7 +78,7 @@ fn tick<O: Write>(
     mut words: Words<'_>,
     out: &mut O,
 ) -> Result<(), LineFault> {
-    let now = words.moment()?;
+    let now = words.moment();
     words.end()?;
     let ticked = again::tick(agent, now)?;
     Ok(tell_ticked(out, &ticked)?)
@@ -89,7 +90,7 @@ fn give<O: Write>(
     mut words: Words<'_>,
     out: &mut O,
 ) -> Result<(), LineFault> {
-    let slot = words.number(u64::from(PAGES) - 1)?;
+    let slot = words.number(u64::from(PAGES) - 1);
     words.end()?;
     let given = again::give(agent, slot as u8)?;
     tell_given(out, &given)
@@ -98,7 +99,7 @@ fn give<O: Write>(
 /// Tells the name of what was drawn.
 pub fn tell_drawn<O: Write>(out: &mut O, drawn: Result<Name, AgentFault>) -> Result<(), LineFault> {
     match drawn {
-        Ok(name) => Ok(writeln!(out, "drew {}", Numbered::one(name))?),
+        Ok(name) => tell(out, "drew", &Numbered::one(name)),
         Err(fault) => tell_refused(out, fault),
     }
 }
@@ -110,7 +111,7 @@ pub fn tell_shown<O: Write>(
     shown: Result<(), AgentFault>,
 ) -> Result<(), LineFault> {
     match shown {
-        Ok(()) => Ok(writeln!(out, "shown {}", PrintedPage(*page))?),
+        Ok(()) => tell(out, "shown", &PrintedPage(*page)),
         Err(fault) => tell_refused(out, fault),
     }
 }
@@ -125,5 +126,5 @@ pub fn tell_left<O: Write>(out: &mut O, left: Result<(), AgentFault>) -> Result<
 
 /// Tells what a slot is given.
 pub fn tell_given<O: Write>(out: &mut O, given: &Option<PageMsg>) -> Result<(), LineFault> {
-    Ok(writeln!(out, "gave {}", PrintedMessage(given.as_ref()))?)
+    tell(out, "gave", &PrintedMessage(given.as_ref()))
 }

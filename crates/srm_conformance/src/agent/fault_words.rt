@@ -1,11 +1,12 @@
 //! The words for what is refused and for what is ignored.
 
+use crate::answers::tell;
 use crate::fault::LineFault;
 use srm_agent::{AgentFault, Cause};
 use srm_codec::DecodeFault;
-use std::fmt;
 use std::fmt::{Display, Formatter};
 use std::io::Write;
+use std::{fmt, io};
 
 /// Each fault of a call, in order of its number.
 const FAULTS: [AgentFault; 6] = [
@@ -33,12 +34,12 @@ pub fn fault_word(fault: AgentFault) -> &'static str {
 pub fn tell_refused<O: Write>(out: &mut O, fault: AgentFault) -> Result<(), LineFault> {
     match fault {
         AgentFault::Memory => Err(LineFault::Memory),
-        _ => Ok(writeln!(out, "refused {}", fault_word(fault))?),
+        _ => tell(out, "refused", &fault_word(fault)),
     }
 }
 
 /// Tells of each fault of a call its word, its number and its text.
-pub fn tell_faults<O: Write>(out: &mut O) -> Result<(), LineFault> {
+pub fn tell_faults<O: Write>(out: &mut O) -> io::Result<()> {
     for fault in FAULTS {
         writeln!(out, "{} {} {fault}", fault_word(fault), fault as u8)?;
     }

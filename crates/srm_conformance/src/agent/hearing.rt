@@ -16,7 +16,7 @@ use crate::words::{Words, read_number};
 use srm_agent::Agent;
 use srm_names::{DRAWOPS, LATEST_MOMENT, Member};
 use srm_timers::Listed;
-use std::alloc::Global;
+use std::alloc::{AllocError, Global};
 use std::io::Write;
 
 /// How often bytes are repeated at most.
@@ -37,7 +37,7 @@ pub fn hear<O: Write>(
     mut words: Words<'_>,
     out: &mut O,
 ) -> Result<(), LineFault> {
-    let now = words.moment()?;
+    let now = words.moment();
     match read_said(alloc, session, words)? {
         Said::One(bytes) => {
             let heard = again::hear(agent, bytes.as_slice(), now)?;
@@ -83,17 +83,17 @@ fn hear_each<O: Write>(
 }
 
 fn read_said(alloc: Global, session: u32, mut words: Words<'_>) -> Result<Said, LineFault> {
-    match words.word()? {
+    match words.word() {
         "hex" => Ok(Said::One(read_bytes(alloc, words)?)),
         "session" => read_session_bytes(alloc, session, false, words),
         "farewell" => read_session_bytes(alloc, session, true, words),
         "data" => {
-            let source = words.member()?;
+            let source = words.member();
             read_drawop(alloc, session, source, None, words)
         }
         "repair" => {
-            let sender = words.member()?;
-            let source = words.member()?;
+            let sender = words.member();
+            let source = words.member();
             read_drawop(alloc, session, source, Some(sender), words)
         }
         "request" => read_request(alloc, session, words),
@@ -103,16 +103,20 @@ fn read_said(alloc: Global, session: u32, mut words: Words<'_>) -> Result<Said, 
 
 /// `BYTES` or `BYTES*N`: bytes in hexadecimal, once or N times.
 fn read_bytes(alloc: Global, mut words: Words<'_>) -> Result<Vec<u8>, LineFault> {
-    let word = words.word()?;
+    let word = words.word();
     words.end()?;
     let Some((digits, times)) = word.split_once('*') else {
         return read_hex(alloc, word);
     };
-    let once = read_hex(alloc, digits)?;
     let times = read_number(times, MOST_TIMES).ok_or(LineFault::Bad)?;
+    let once = read_hex(alloc, digits)?;
+    Ok(repeated(alloc, once.as_slice(), times)?)
+}
+
+fn repeated(alloc: Global, once: &[u8], times: u64) -> Result<Vec<u8>, AllocError> {
     let mut bytes = Vec::new(alloc);
     for _ in 0..times {
-        append(&mut bytes, once.as_slice())?;
+        append(&mut bytes, once)?;
     }
     Ok(bytes)
 }
@@ -123,7 +127,7 @@ fn read_session_bytes(
     farewell: bool,
     mut words: Words<'_>,
 ) -> Result<Said, LineFault> {
-    let sender = words.member()?;
+    let sender = words.member();
     let datagram = read_session(alloc, sender, farewell, &mut words)?;
     Ok(Said::One(spelled(alloc, session, &datagram)?))
 }
@@ -136,14 +140,16 @@ fn read_drawop(
     repairs: Option<Member>,
     mut words: Words<'_>,
 ) -> Result<Said, LineFault> {
-    let page = words.page()?;
-    let numbers = words.word()?;
+    let page = words.page();
+    let numbers = words.word();
     let (numbers, stamp) = numbers.split_once('@').unwrap_or((numbers, "0"));
+    let stamp = read_number(stamp, LATEST_MOMENT).ok_or(LineFault::Bad)?;
+    let body = read_body(alloc, words.text()?)?;
     let copied = Copied {
         source,
         page,
-        stamp: read_number(stamp, LATEST_MOMENT).ok_or(LineFault::Bad)?,
-        body: read_body(alloc, words.left())?,
+        stamp,
+        body,
     };
     let unnumbered = match repairs {
         None => Unnumbered::Data(copied),
@@ -154,15 +160,16 @@ fn read_drawop(
 
 /// `M S C.P N`, or for several names `M S C.P N MASK`.
 fn read_request(alloc: Global, session: u32, mut words: Words<'_>) -> Result<Said, LineFault> {
-    let sender = words.member()?;
-    let source = words.member()?;
-    let page = words.page()?;
-    let numbers = words.word()?;
+    let sender = words.member();
+    let source = words.member();
+    let page = words.page();
+    let numbers = words.word();
+    let mask = read_mask(alloc, words)?;
     let unnumbered = Unnumbered::Request {
         sender,
         source,
         page,
-        mask: read_mask(alloc, words)?,
+        mask,
     };
     number(alloc, session, unnumbered, numbers)
 }
@@ -170,14 +177,10 @@ fn read_request(alloc: Global, session: u32, mut words: Words<'_>) -> Result<Sai
 /// Four bytes, or nothing, which is 0.
 fn read_mask(alloc: Global, mut words: Words<'_>) -> Result<u32, LineFault> {
     if words.is_empty() {
+        words.end()?;
         return Ok(0);
     }
-    let mask = words.bytes(alloc)?;
-    words.end()?;
-    match mask.as_slice() {
-        [a, b, c, d] => Ok(u32::from_be_bytes([*a, *b, *c, *d])),
-        _ => Err(LineFault::Bad),
-    }
+    words.last_mask(alloc)
 }
 
 /// The datagram with this number, or those of a range.
@@ -187,9 +190,11 @@ fn number(
     unnumbered: Unnumbered,
     numbers: &str,
 ) -> Result<Said, LineFault> {
-    let range = Range::read(numbers, DRAWOPS)?;
     match read_number(numbers, u64::from(DRAWOPS)) {
         Some(number) => Ok(Said::One(unnumbered.spelled(alloc, session, number as u32)?)),
-        None => Ok(Said::Several(unnumbered, range)),
+        None => match Range::read(numbers, DRAWOPS) {
+            Some(range) => Ok(Said::Several(unnumbered, range)),
+            None => Err(LineFault::Bad),
+        },
     }
 }

@@ -37,32 +37,30 @@ impl Settings {
         words: &mut Words<'_>,
     ) -> Result<bool, LineFault> {
         match word {
-            "members" => self.members = read_byte(words)?,
-            "me" => self.me = read_byte(words)?,
-            "session" => self.session = read_four_bytes(words)?,
-            "bucket" => self.read_bucket(words)?,
-            "waits" => self.read_waits(words)?,
-            "least-distance" => self.rate_and_more.least_distance = words.number(u64::MAX)?,
-            "words" => self.words = words.numbers_left(alloc)?,
+            "members" => self.members = read_byte(words),
+            "me" => self.me = read_byte(words),
+            "session" => self.session = read_four_bytes(words),
+            "bucket" => self.read_bucket(words),
+            "waits" => self.read_waits(words),
+            "least-distance" => self.rate_and_more.least_distance = words.number(u64::MAX),
+            "words" => self.words = words.last_numbers(alloc)?,
             _ => return Ok(false),
         }
         Ok(true)
     }
 
     /// `R D`.
-    fn read_bucket(&mut self, words: &mut Words<'_>) -> Result<(), LineFault> {
-        self.rate_and_more.rate = read_four_bytes(words)?;
-        self.rate_and_more.depth = read_four_bytes(words)?;
-        Ok(())
+    fn read_bucket(&mut self, words: &mut Words<'_>) {
+        self.rate_and_more.rate = read_four_bytes(words);
+        self.rate_and_more.depth = read_four_bytes(words);
     }
 
     /// `c1 c2 d1 d2`.
-    fn read_waits(&mut self, words: &mut Words<'_>) -> Result<(), LineFault> {
-        self.rate_and_more.c1 = read_byte(words)?;
-        self.rate_and_more.c2 = read_byte(words)?;
-        self.rate_and_more.d1 = read_byte(words)?;
-        self.rate_and_more.d2 = read_byte(words)?;
-        Ok(())
+    fn read_waits(&mut self, words: &mut Words<'_>) {
+        self.rate_and_more.c1 = read_byte(words);
+        self.rate_and_more.c2 = read_byte(words);
+        self.rate_and_more.d1 = read_byte(words);
+        self.rate_and_more.d2 = read_byte(words);
     }
 
     /// None where one of them is out of its range.
@@ -80,12 +78,10 @@ impl Settings {
     }
 }
 
-fn read_byte(words: &mut Words<'_>) -> Result<u8, LineFault> {
-    let number = words.number(u64::from(u8::MAX))?;
-    Ok(number as u8)
+fn read_byte(words: &mut Words<'_>) -> u8 {
+    words.number(u64::from(u8::MAX)) as u8
 }
 
-fn read_four_bytes(words: &mut Words<'_>) -> Result<u32, LineFault> {
-    let number = words.number(u64::from(u32::MAX))?;
-    Ok(number as u32)
+fn read_four_bytes(words: &mut Words<'_>) -> u32 {
+    words.number(u64::from(u32::MAX)) as u32
 }

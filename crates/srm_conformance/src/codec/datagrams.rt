@@ -2,26 +2,26 @@
 
 use crate::fault::LineFault;
 use crate::hex::Hex;
+use crate::memory::copied;
 use crate::session_messages::read_session;
 use crate::words::Words;
-use bytes::Bytes;
 use srm_codec::Datagram;
-use srm_names::{DRAWOPS, Drawop, Echo, Member, Name, Page};
+use srm_names::{Drawop, Echo, Member, Name, Page};
 use std::alloc::Global;
 use std::fmt;
 use std::fmt::{Display, Formatter};
 
 /// Reads a datagram, in the words in which one is printed, to the end of the line.
 pub fn read_datagram(alloc: Global, mut words: Words<'_>) -> Result<Datagram, LineFault> {
-    if words.word()? != "from" {
+    if words.word() != "from" {
         return Err(LineFault::Bad);
     }
-    let sender = words.member()?;
-    match words.word()? {
+    let sender = words.member();
+    match words.word() {
         "data" => Ok(Datagram::Data(read_drawop(alloc, sender, words)?)),
         "request" => read_request(alloc, sender, words),
         "repair" => {
-            let source = words.member()?;
+            let source = words.member();
             let drawop = read_drawop(alloc, source, words)?;
             Ok(Datagram::Repair { sender, drawop })
         }
@@ -31,23 +31,13 @@ pub fn read_datagram(alloc: Global, mut words: Words<'_>) -> Result<Datagram, Li
     }
 }
 
-/// `C.P NUMBER`, of this source.
-fn read_name(source: Member, words: &mut Words<'_>) -> Result<Name, LineFault> {
-    let page = words.page()?;
-    let number = words.number(u64::from(DRAWOPS))? as u32;
-    Name::new(source, page, number).ok_or(LineFault::Bad)
-}
-
 /// `C.P NUMBER STAMP HEX`, of this source.
 fn read_drawop(alloc: Global, source: Member, mut words: Words<'_>) -> Result<Drawop, LineFault> {
-    let name = read_name(source, &mut words)?;
-    let stamp = words.number(u64::MAX)?;
+    let name = words.name_by(source);
+    let stamp = words.number(u64::MAX);
     let bytes = words.bytes(alloc)?;
     words.end()?;
-    let body = match Bytes::copy_from_slice(alloc, bytes.as_slice()) {
-        Err(_) => Bytes::copy_from_slice(alloc, bytes.as_slice())?,
-        Ok(body) => body,
-    };
+    let body = copied(alloc, bytes.as_slice())?;
     Ok(Drawop { name, stamp, body })
 }
 
@@ -57,17 +47,9 @@ fn read_request(
     sender: Member,
     mut words: Words<'_>,
 ) -> Result<Datagram, LineFault> {
-    let name = words.name()?;
-    let mask = words.bytes(alloc)?;
-    words.end()?;
-    match mask.as_slice() {
-        [a, b, c, d] => Ok(Datagram::Request {
-            sender,
-            name,
-            mask: u32::from_be_bytes([*a, *b, *c, *d]),
-        }),
-        _ => Err(LineFault::Bad),
-    }
+    let name = words.name();
+    let mask = words.last_mask(alloc)?;
+    Ok(Datagram::Request { sender, name, mask })
 }
 
 /// A datagram as it is printed: its sender, its kind and its fields.

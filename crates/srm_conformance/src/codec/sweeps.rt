@@ -5,7 +5,9 @@ use crate::fault::LineFault;
 use crate::memory::append;
 use srm_codec::DecodeFault;
 use std::alloc::Global;
+use std::fmt::{Display, Formatter};
 use std::io::Write;
+use std::{fmt, io};
 
 /// What each byte is changed to.
 const VALUES: [u8; 5] = [0, 1, 0x7f, 0x80, 0xff];
@@ -24,12 +26,7 @@ struct Run {
 
 impl Run {
     /// The place that comes next: where it answers otherwise, the run is printed and another begins.
-    fn next<O: Write>(
-        &mut self,
-        place: usize,
-        answers: Answers,
-        out: &mut O,
-    ) -> Result<(), LineFault> {
+    fn next<O: Write>(&mut self, place: usize, answers: Answers, out: &mut O) -> io::Result<()> {
         if place == self.first {
             self.answers = answers;
         } else if self.answers != answers {
@@ -41,17 +38,26 @@ impl Run {
     }
 
     /// Prints the places up to the one before this, and their answers.
-    fn print<O: Write>(&self, end: usize, out: &mut O) -> Result<(), LineFault> {
+    fn print<O: Write>(&self, end: usize, out: &mut O) -> io::Result<()> {
         let last = end.saturating_sub(1);
+        let answers = PrintedAnswers(self.answers.get(..self.shown).unwrap_or(&[]));
         if self.first < last {
-            write!(out, "{}-{last}:", self.first)?;
+            writeln!(out, "{}-{last}:{answers}", self.first)
         } else {
-            write!(out, "{last}:")?;
+            writeln!(out, "{last}:{answers}")
         }
-        for fault in self.answers.iter().take(self.shown) {
-            write!(out, " {fault}")?;
+    }
+}
+
+/// Numbers of faults, as they are printed: each behind a space.
+#[derive(Drop)]
+struct PrintedAnswers<'a>(&'a [u8]);
+
+impl Display for PrintedAnswers<'_> {
+    fn fmt<W: fmt::Write>(&self, f: &mut Formatter<W>) -> fmt::Result {
+        for fault in self.0 {
+            write!(f, " {fault}")?;
         }
-        writeln!(out)?;
         Ok(())
     }
 }
@@ -81,7 +87,7 @@ pub fn print_cuts<O: Write>(alloc: Global, bytes: &[u8], out: &mut O) -> Result<
         let fault = number_of_fault(alloc, bytes.get(..end).unwrap_or(&[]))?;
         run.next(end, [fault, 0, 0, 0, 0], out)?;
     }
-    run.print(bytes.len(), out)
+    Ok(run.print(bytes.len(), out)?)
 }
 
 /// Appends each byte, from 0 to 255.
@@ -97,7 +103,7 @@ pub fn print_longer<O: Write>(alloc: Global, bytes: &[u8], out: &mut O) -> Resul
         let fault = number_of_fault(alloc, longer.as_slice())?;
         run.next(usize::from(byte), [fault, 0, 0, 0, 0], out)?;
     }
-    run.print(256, out)
+    Ok(run.print(256, out)?)
 }
 
 /// Changes each byte to each of the values.
@@ -106,15 +112,21 @@ pub fn print_changes<O: Write>(alloc: Global, bytes: &[u8], out: &mut O) -> Resu
     let mut changed = Vec::new(alloc);
     append(&mut changed, bytes)?;
     for (place, byte) in bytes.iter().enumerate() {
-        let mut answers = [0; VALUES.len()];
-        for (answer, value) in answers.iter_mut().zip(VALUES) {
-            put(changed.as_mut_slice(), place, value);
-            *answer = number_of_fault(alloc, changed.as_slice())?;
-        }
+        let answers = answers_at(alloc, changed.as_mut_slice(), place)?;
         put(changed.as_mut_slice(), place, *byte);
         run.next(place, answers, out)?;
     }
-    run.print(bytes.len(), out)
+    Ok(run.print(bytes.len(), out)?)
+}
+
+/// The answers where the byte of a place is each of the values. The last of them stays there.
+fn answers_at(alloc: Global, bytes: &mut [u8], place: usize) -> Result<Answers, LineFault> {
+    let mut answers = [0; VALUES.len()];
+    for (answer, value) in answers.iter_mut().zip(VALUES) {
+        put(bytes, place, value);
+        *answer = number_of_fault(alloc, bytes)?;
+    }
+    Ok(answers)
 }
 
 fn put(bytes: &mut [u8], place: usize, byte: u8) {
