@@ -138,7 +138,12 @@ SRM_API int srm_version(void);
 /** Returns the version of the library as text, as `0.1.0`. It is static. */
 SRM_API const char *srm_version_string(void);
 
-/** Returns one line of English for a code of ::srm_code, and for any other number one that says so. It is static, and never NULL. */
+/**
+ * Says in one line of English what a code means.
+ *
+ * @param code  one of ::srm_code; of any other number the text says so
+ * @return the text, which is static; never NULL
+ */
 SRM_API const char *srm_strerror(int code);
 
 /** A page: who began it, and its number among that member's pages. */
@@ -185,11 +190,16 @@ typedef struct srm_config {
 /** The size of an srm_config that ends before `least_distance`. `size` is this or sizeof(srm_config). */
 #define SRM_CONFIG_SIZE_MIN 24
 
-/** Writes the defaults into `size` bytes: member 0 of 1 in session 0. `config->size` becomes how many of them the library knows; bytes
- * behind those become 0. NULL is passed over, and so is a `size` below ::SRM_CONFIG_SIZE_MIN. */
+/**
+ * Writes the defaults: member 0 of 1 in session 0. srm_config_default() calls it with the size that the caller's header has.
+ *
+ * @param[out] config  the settings; NULL is passed over
+ * @param size         bytes of `*config`; fewer than ::SRM_CONFIG_SIZE_MIN are passed over. `config->size` becomes how many of them the library
+ *                     knows, and bytes behind those become 0
+ */
 SRM_API void srm_config_init(srm_config *config, size_t size);
 
-/** Writes the defaults into an srm_config. NULL is passed over. */
+/** Writes the defaults into an srm_config, by srm_config_init(). */
 #define srm_config_default(config) srm_config_init((config), sizeof(srm_config))
 
 /** One member of a session. Its memory belongs to the library. */
@@ -209,8 +219,12 @@ typedef struct srm_agent srm_agent;
  */
 SRM_CHECKED SRM_API int srm_agent_new(srm_agent **agent, const srm_config *config, uint64_t seed, uint64_t now);
 
-/** Ends an agent, whatever its state, and frees all that it holds. It sends nothing: to take leave of the others call srm_agent_leave() and tick
- * until srm_agent_state() is ::SRM_GONE. NULL is passed over. */
+/**
+ * Ends an agent, whatever its state, and frees all that it holds. It sends nothing: to take leave of the others call srm_agent_leave() and tick
+ * until srm_agent_state() is ::SRM_GONE.
+ *
+ * @param agent  the agent, which no call may take any more; NULL is passed over
+ */
 SRM_API void srm_agent_free(srm_agent *agent);
 
 /**
@@ -228,18 +242,32 @@ SRM_API void srm_agent_free(srm_agent *agent);
  */
 SRM_CHECKED SRM_API int srm_agent_draw(srm_agent *agent, srm_page page, const void *body, size_t length, uint64_t now, srm_name *name);
 
-/** Returns whether a stroke of `length` bytes, drawn at this moment, would have to wait for no other: nothing waits that goes before it, or the
- * bucket covers all of that and the stroke. False where `agent` is NULL. It does not say whether the draw is refused. More than ::SRM_BODY_MAX
- * bytes count as so many. */
+/**
+ * Says whether a stroke, drawn at this moment, would have to wait for no other: nothing waits that goes before it, or the bucket covers all of
+ * that and the stroke. It does not say whether the draw is refused.
+ *
+ * @param agent   the agent
+ * @param length  bytes of the stroke; more than ::SRM_BODY_MAX count as so many
+ * @param now     the moment, in microseconds; here it may be any
+ * @return whether it would wait for no other; false where there is no agent
+ */
 SRM_API bool srm_agent_admits(srm_agent *agent, size_t length, uint64_t now);
 
-/** Returns from which moment on srm_agent_admits() is true for a stroke of `length` bytes, if no other call comes before. It may be past
- * ::SRM_MOMENT_MAX. ::SRM_NEVER where something else has to go first, of which srm_agent_next_due() tells when, or `agent` is NULL. */
+/**
+ * Says from which moment on srm_agent_admits() is true, if no other call comes before.
+ *
+ * @param agent   the agent
+ * @param length  bytes of the stroke; more than ::SRM_BODY_MAX count as so many
+ * @return the moment, in microseconds, which may be past ::SRM_MOMENT_MAX; ::SRM_NEVER where something else has to go first, of which
+ *         srm_agent_next_due() tells when, or there is no agent
+ */
 SRM_API uint64_t srm_agent_admits_from(srm_agent *agent, size_t length);
 
 /**
  * Writes the page of this member's own that it would begin next. The page enters the table when it is drawn on or shown.
  *
+ * @param agent      the agent
+ * @param[out] page  the page
  * @return ::SRM_OK; ::SRM_ERROR_NULL; ::SRM_ERROR_EMPTY; ::SRM_ERROR_PAGE where the table is full or the member began 65,536 pages
  */
 SRM_CHECKED SRM_API int srm_agent_new_page(srm_agent *agent, srm_page *page);
@@ -247,6 +275,9 @@ SRM_CHECKED SRM_API int srm_agent_new_page(srm_agent *agent, srm_page *page);
 /**
  * Shows a page, which enters the page table if it is not there. Repairs and requests for the page shown go first.
  *
+ * @param agent  the agent
+ * @param page   the page
+ * @param now    the moment, in microseconds
  * @return ::SRM_OK, or the first of these that holds: ::SRM_ERROR_NULL; ::SRM_ERROR_MOMENT; ::SRM_ERROR_PAGE where the page's creator is past
  *         31; ::SRM_ERROR_EMPTY; ::SRM_ERROR_GONE; ::SRM_ERROR_PAGE_LIMIT; ::SRM_ERROR_MEMORY, which this version never returns: showing takes no memory
  */
@@ -255,6 +286,8 @@ SRM_CHECKED SRM_API int srm_agent_show(srm_agent *agent, srm_page page, uint64_t
 /**
  * Begins to leave: the member draws nothing new, and once all that it drew was sent, a tick sends its farewell and it is gone.
  *
+ * @param agent  the agent
+ * @param now    the moment, in microseconds
  * @return ::SRM_OK, or the first of these that holds: ::SRM_ERROR_NULL; ::SRM_ERROR_MOMENT; ::SRM_ERROR_EMPTY; ::SRM_ERROR_GONE;
  *         ::SRM_ERROR_LEAVING
  */
@@ -334,25 +367,48 @@ SRM_CHECKED SRM_API int srm_agent_tick(srm_agent *agent, uint64_t now, srm_ticke
  */
 SRM_CHECKED SRM_API int srm_agent_next_datagram(srm_agent *agent, void *room, size_t size, size_t *length);
 
-/** Takes the next name that the last tick asked for, in order; for logs alone.
- * @return ::SRM_OK; ::SRM_ERROR_NULL; ::SRM_ERROR_EMPTY; ::SRM_NOTHING */
+/**
+ * Takes the next name that the last tick asked for, in order; for logs alone.
+ *
+ * @param agent      the agent
+ * @param[out] name  the name
+ * @return ::SRM_OK; ::SRM_ERROR_NULL; ::SRM_ERROR_EMPTY; ::SRM_NOTHING
+ */
 SRM_CHECKED SRM_API int srm_agent_next_request(srm_agent *agent, srm_name *name);
 
-/** Takes the next name that the last tick repaired, in order; for logs alone.
- * @return ::SRM_OK; ::SRM_ERROR_NULL; ::SRM_ERROR_EMPTY; ::SRM_NOTHING */
+/**
+ * Takes the next name that the last tick repaired, in order; for logs alone.
+ *
+ * @param agent      the agent
+ * @param[out] name  the name
+ * @return ::SRM_OK; ::SRM_ERROR_NULL; ::SRM_ERROR_EMPTY; ::SRM_NOTHING
+ */
 SRM_CHECKED SRM_API int srm_agent_next_repair(srm_agent *agent, srm_name *name);
 
-/** Returns the next moment at which a tick does something. Ask again after each other call, since any may change it. It may be past
- * ::SRM_MOMENT_MAX: then no tick comes to it. ::SRM_NEVER where the member is gone, or `agent` is NULL. */
+/**
+ * Says when a tick next does something. Ask again after each other call, since any may change it.
+ *
+ * @param agent  the agent
+ * @return the moment, in microseconds, which may be past ::SRM_MOMENT_MAX: then no tick comes to it; ::SRM_NEVER where the member is gone, or there is
+ *         no agent
+ */
 SRM_API uint64_t srm_agent_next_due(srm_agent *agent);
 
-/** Returns whether the member takes part, one of ::srm_state; 0 where `agent` is NULL. */
+/**
+ * Says whether the member takes part.
+ *
+ * @param agent  the agent
+ * @return one of ::srm_state; 0 where there is no agent
+ */
 SRM_API int srm_agent_state(srm_agent *agent);
 
 /**
  * Writes the one-way distance to a member in microseconds: 0 to this member itself, to another from the floor to ::SRM_DISTANCE_MAX.
  * Timers wait for multiples of it. Before an echo from a member was heard it is 100,000, or the floor where that is more.
  *
+ * @param agent          the agent
+ * @param member         0 to 31; it need not be below `members`
+ * @param[out] distance  the distance, in microseconds
  * @return ::SRM_OK; ::SRM_ERROR_NULL; ::SRM_ERROR_MEMBER where `member` is past 31; ::SRM_ERROR_EMPTY
  */
 SRM_CHECKED SRM_API int srm_agent_distance(srm_agent *agent, unsigned member, uint64_t *distance);

@@ -1,5 +1,5 @@
-"""Compares the constants of srm.h, of its declarations in Rust and Python, and the numbers of codes, causes, states and messages, with those of the crates. Prints
-what differs."""
+"""Compares the constants of srm.h, of its declarations in Rust and Python, and the numbers of codes, causes, faults, states and messages, with those of the
+crates. Prints what differs."""
 
 import pathlib
 import re
@@ -62,14 +62,36 @@ def numbered():
     error, heard, message = (f"bindings/rust/ringyew/src/{name}.rs" for name in ("error", "heard", "message"))
     errors, values, agent = (f"bindings/python/ringyew/src/ringyew/{name}.py" for name in ("_errors", "_values", "_agent"))
     yield error, "ERROR_", numbered_in(error, r"^            (\d+) => Error::(\w+),"), 11
+    yield error, "ERROR_", [(number, word) for word, number in numbered_in(error, r"^            Error::(\w+) => (\d+),")], 11
     yield heard, "CAUSE_", numbered_in(heard, r"^            (\d+) => Some\(Cause::(\w+)"), 7
     yield heard, "", numbered_in(heard, r"^            (\d+) => State::(\w+),"), 2
     yield message, "MESSAGE_", numbered_in(message, r"^            (\d+) => Message::(\w+)"), 3
     yield errors, "ERROR_", numbered_in(errors, r"^    (\d+): (\w+?)(?:Refused)?Error,"), 11
+    yield agent, "ERROR_", [(number, word) for word, number in numbered_in(agent, r"^ +raise (\w+)Error\((\d+)\)$")], 5
     yield agent, "MESSAGE_", numbered_in(agent, r"^    if raw\.kind == (\d+):\n        return (\w+)\("), 3
     for name, prefix, least in (("Cause", "CAUSE_", 7), ("State", "", 3)):
         body = re.search(rf"^class {name}\(IntEnum\):(.*?)(?=^class|\Z)", (TOP / values).read_text(), re.M | re.S)[1]
         yield values, prefix, [(number, word) for word, number in re.findall(r"^    (\w+) = (\d+)$", body, re.M)], least
+
+
+def specified(file, pattern):
+    """The numbers by which srm_ffi's definitions tell C of the variants that a pattern finds."""
+    return {snake(name): number for name, number in numbers((TOP / "crates/srm_ffi/specs" / file).read_text(), pattern).items()}
+
+
+def of_definitions(coded):
+    """What is to be the same in the definitions of srm_ffi and in the crates: a title and the two numbers."""
+    for function, file, name in (
+        ("fault_number faults", "srm_entries/src/fault.rt", "AgentFault"),
+        ("state_number states", "srm_entries/src/state.rt", "AgentState"),
+        ("decode_number decode", "srm_codec/src/fault.rt", "DecodeFault"),
+    ):
+        told = specified("Codes.antt", rf"^{function}\.(\w+) = (\d+)$")
+        for variant, number in variants(file, name).items():
+            yield f"{function}.{variant}", told.get(variant), number
+    told = specified("Shapes.antt", r"^raw_message \(?(\w+).* kind = (\d+) \}$")
+    for variant in variants("srm_names/src/page_msg.rt", "PageMsg"):
+        yield f"raw_message of {variant}", told.get(variant), coded[f"MESSAGE_{variant}"]
 
 
 def of_crates(defined, coded):
@@ -109,7 +131,7 @@ def of_bindings(defined, coded):
 def main():
     defined = numbers(HEADER, r"^#define SRM_(\w+) (?:UINT64_C\()?(\d+)\)?(?=\s|$)")
     coded = numbers(HEADER, r"^    SRM_(\w+) = (\d+),?")
-    wrong = [f"{name}: {one} and {other}" for name, one, other in (*of_crates(defined, coded), *of_bindings(defined, coded)) if one != other]
+    wrong = [f"{name}: {one} and {other}" for name, one, other in (*of_crates(defined, coded), *of_definitions(coded), *of_bindings(defined, coded)) if one != other]
     print("\n".join(wrong), end="\n" if wrong else "")
     return len(wrong) > 0
 

@@ -41,7 +41,7 @@ void __wrap_free(void *at)
     __real_free(at);
 }
 
-/* How often each call was refused for want of memory. Showing and giving take none, so they never are. */
+/* How often each call ran out of memory. Showing and giving take none, so they never are. */
 enum { NEW, DRAW, HEAR, TICK, SHOW, GIVE, CALLS };
 static const char *const names[CALLS] = {"new", "draw", "hear", "tick", "show", "give"};
 static long refusals[CALLS];

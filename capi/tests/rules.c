@@ -62,6 +62,13 @@ static void other_versions(void)
     WANT(srm_agent_distance(agent, 1, &distance), SRM_OK);
     WANT(distance, 100000);
     srm_agent_free(agent);
+    /* In a block that ends where the older struct does, so that a sanitizer sees what lies past it. */
+    uint8_t *older = malloc(SRM_CONFIG_SIZE_MIN);
+    srm_config_init((srm_config *)(void *)older, SRM_CONFIG_SIZE_MIN);
+    older[offsetof(srm_config, members)] = 2;
+    WANT(srm_agent_new(&agent, (srm_config *)(void *)older, 0, 0), SRM_OK);
+    srm_agent_free(agent);
+    free(older);
     FILL(newer);
     srm_config_init(&newer.config, sizeof newer);
     WANT(newer.config.size, sizeof newer.config);
@@ -197,6 +204,7 @@ static void refusals(void)
     WANT(srm_agent_draw(a, SRM_FIRST_PAGE, "x", 1, late, &name), SRM_ERROR_MOMENT);
     WANT(srm_agent_draw(a, (srm_page){32, 0}, "x", 1, 0, &name), SRM_ERROR_PAGE);
     WANT(srm_agent_draw(a, SRM_FIRST_PAGE, long_body, sizeof long_body, 0, &name), SRM_ERROR_BODY_LONG);
+    WANT(srm_agent_draw(a, SRM_FIRST_PAGE, long_body, PTRDIFF_MAX, 0, &name), SRM_ERROR_BODY_LONG); /* no more of it is read */
     WANT(srm_agent_show(a, (srm_page){32, 0}, 0), SRM_ERROR_PAGE);
     WANT(srm_agent_show(a, SRM_FIRST_PAGE, late), SRM_ERROR_MOMENT);
     WANT(srm_agent_leave(a, late), SRM_ERROR_MOMENT);
@@ -505,6 +513,8 @@ static void requests(void)
     WANT(srm_agent_distance(b, 1, &distance), SRM_OK);
     WANT(distance, 0);
     WANT(srm_agent_distance(b, 0, &distance), SRM_OK);
+    WANT(distance, 100000);
+    WANT(srm_agent_distance(b, 31, &distance), SRM_OK); /* who is not in the roster, and so was never heard */
     WANT(distance, 100000);
     WANT(srm_agent_hear(b, room, length, 0, &heard), SRM_OK);
     WANT(heard.timers, 2);

@@ -1,9 +1,11 @@
 """The package's calls, at worked values: `python3 -m unittest tests/calls.py`."""
 
 import unittest
+from unittest import mock
 
 import ringyew
 from ringyew import FIRST_PAGE, Agent, Cause, Close, Draw, Name, Open, Page, State
+from ringyew._library import library
 
 
 def agent(me: int = 0) -> Agent:
@@ -52,6 +54,24 @@ class Calls(unittest.TestCase):
             self.assertIsInstance(given[1], Draw)
             self.assertEqual((listener.distance(1), listener.distance(0)), (0, 100_000))
 
+    def test_a_loss_is_requested_and_repaired(self) -> None:
+        with agent(0) as drawer, agent(1) as listener:
+            for _ in range(3):
+                drawer.draw(b"x", 0)
+            drawer.tick(0)
+            *_, last = drawer.datagrams()
+            self.assertEqual(listener.hear(last, 0), (None, 0, 2))
+            due = listener.next_due
+            self.assertTrue(due is not None and 200_000 <= due <= 400_000)
+            self.assertEqual(listener.tick(400_000), (2, 0, 1, State.ACTIVE))
+            names = [Name(FIRST_PAGE, 0, 1), Name(FIRST_PAGE, 0, 2)]
+            self.assertEqual(list(listener.requests()), names)
+            (request,) = listener.datagrams()
+            self.assertEqual(drawer.hear(request, 400_000), (None, 0, 2))
+            self.assertEqual(drawer.tick(600_000), (0, 2, 2, State.ACTIVE))
+            self.assertEqual(list(drawer.repairs()), names)
+            self.assertEqual(len(list(drawer.datagrams())), 2)
+
     def test_the_rate_says_from_when_on_it_admits(self) -> None:
         with agent() as a:
             self.assertTrue(a.admits(ringyew.BODY_MAX, 0))
@@ -60,6 +80,34 @@ class Calls(unittest.TestCase):
             self.assertIsNone(a.admits_from(13))
             a.tick(0)
             self.assertEqual(a.admits_from(13), 136_375)
+            self.assertEqual((a.admits(13, 136_374), a.admits(13, 136_375), a.admits(1024, 136_375)), (False, True, False))
+            self.assertRaises(ValueError, a.admits, -1, 0)
+            self.assertRaises(ringyew.MomentError, a.admits, 13, -1)
+        with agent() as a:
+            self.assertTrue(a.admits(0, 0))
+
+    def test_seeds_choose_the_waits(self) -> None:
+        dues = []
+        for seed in (17, 18, 2**64 + 17):
+            with agent(0) as drawer, Agent(me=1, members=2, session=7, seed=seed, now=0) as listener:
+                for _ in range(2):
+                    drawer.draw(b"x", 0)
+                drawer.tick(0)
+                *_, last = drawer.datagrams()
+                listener.hear(last, 0)
+                dues.append(listener.next_due)
+        self.assertEqual(dues[0], dues[2])
+        self.assertNotEqual(dues[0], dues[1])
+
+    def test_an_agent_is_freed_once(self) -> None:
+        with mock.patch.object(library, "srm_agent_free", wraps=library.srm_agent_free) as free:
+            a = agent()
+            del a
+            self.assertEqual(free.call_count, 1)
+            with agent() as a:
+                a.close()
+            del a
+            self.assertEqual(free.call_count, 2)
 
     def test_a_member_leaves(self) -> None:
         with agent() as a:

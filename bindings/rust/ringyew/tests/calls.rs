@@ -1,6 +1,7 @@
 //! The crate's calls, at worked values.
 
 use ringyew::{Agent, BODY_MAX, Cause, Config, DATAGRAM_MAX, Error, MOMENT_MAX, Message, Name, Page, State};
+use std::time::Duration;
 
 fn agent(me: u8) -> Agent {
     Agent::new(&Config::new(me, 2, 7), me.into(), 0).unwrap()
@@ -34,6 +35,7 @@ fn calls_that_break_a_rule_are_refused() {
     assert_eq!(agent.hear(b"", MOMENT_MAX + 1), Err(Error::Moment));
     assert_eq!(agent.tick(MOMENT_MAX + 1), Err(Error::Moment));
     assert_eq!(agent.leave(MOMENT_MAX + 1), Err(Error::Moment));
+    assert_eq!(agent.show(Page::FIRST, MOMENT_MAX + 1), Err(Error::Moment));
     assert_eq!(agent.give(8), Err(Error::Slot));
     assert_eq!(agent.distance(32), Err(Error::Member));
     assert_eq!(agent.messages(8).next(), Some(Err(Error::Slot)));
@@ -82,6 +84,31 @@ fn strokes_are_given_in_order() {
     assert_eq!(given.unwrap(), [Message::Open(Page::FIRST), draw(1, 5, b"a line"), draw(2, 6, b"")]);
     assert_eq!(listener.distance(1), Ok(0));
     assert_eq!(listener.distance(0), Ok(100_000));
+}
+
+#[test]
+fn a_loss_is_requested_and_repaired() {
+    let (mut drawer, mut listener) = (agent(0), agent(1));
+    for _ in 0..3 {
+        drawer.draw(Page::FIRST, b"x", 0).unwrap();
+    }
+    drawer.tick(0).unwrap();
+    let last = drawer.datagrams().last().unwrap();
+    assert_eq!(listener.hear(&last, 0).unwrap().timers, 2);
+    let due = listener.next_due().unwrap();
+    assert!((200_000..=400_000).contains(&due));
+    assert_eq!(listener.wait(due - 5), Some(Duration::from_micros(5)));
+    assert_eq!(listener.wait(due + 5), Some(Duration::ZERO));
+    let ticked = listener.tick(400_000).unwrap();
+    assert_eq!((ticked.requests, ticked.repairs, ticked.datagrams), (2, 0, 1));
+    let names = [1, 2].map(|number| Name { page: Page::FIRST, source: 0, number });
+    assert!(listener.requests().eq(names));
+    let request = listener.datagrams().next().unwrap();
+    assert_eq!(drawer.hear(&request, 400_000).unwrap().timers, 2);
+    let ticked = drawer.tick(600_000).unwrap();
+    assert_eq!((ticked.requests, ticked.repairs, ticked.datagrams), (0, 2, 2));
+    assert!(drawer.repairs().eq(names));
+    assert_eq!(drawer.datagrams().count(), 2);
 }
 
 #[test]
