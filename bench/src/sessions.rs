@@ -18,11 +18,23 @@ pub enum Kind {
     Talk,
 }
 
+/// Why a session has no count of entries.
+#[derive(Clone, Copy, Debug, PartialEq, Eq)]
+pub enum Fault {
+    Memory,
+    /// The journals don't fit together.
+    Mismatch,
+}
+
 /// Has the members of a session make calls for so many turns, and puts their journals together if it `reconciles`. How many entries they
 /// have, what was taken included.
-pub fn play(kind: Kind, turns: u32, reconciles: bool) -> usize {
+pub fn play(kind: Kind, turns: u32, reconciles: bool) -> Result<usize, Fault> {
+    const MEMORY: usize = usize::MAX;
+    const MISMATCH: usize = usize::MAX - 1;
     // Sound: it takes numbers alone.
-    let entries = unsafe { srm_sessions(MEMBERS, turns, kind == Kind::Mingle, reconciles) };
-    assert_ne!(entries, usize::MAX, "memory ran out, or the journals don't fit");
-    entries
+    match unsafe { srm_sessions(MEMBERS, turns, kind == Kind::Mingle, reconciles) } {
+        MEMORY => Err(Fault::Memory),
+        MISMATCH => Err(Fault::Mismatch),
+        entries => Ok(entries),
+    }
 }

@@ -6,6 +6,7 @@ mod addresses;
 mod bare;
 mod live;
 mod members;
+mod norm;
 mod usage;
 
 use members::{Ended, Session};
@@ -32,44 +33,84 @@ const LINES: usize = 200;
 const BETWEEN: Duration = Duration::from_millis(7);
 
 fn main() -> ExitCode {
-    let Some(program) = env::args_os().nth(1).map(PathBuf::from) else {
-        eprintln!("usage: srm-bench-node PROGRAM, the binary of srm");
+    let mut paths = env::args_os().skip(1).map(PathBuf::from);
+    let Some(program) = paths.next() else {
+        eprintln!(
+            "usage: srm-bench-node PROGRAM [PEERS], the binary of srm and the folder of NORM's peers"
+        );
         return ExitCode::from(2);
     };
+    let peers = paths.next();
     println!("Processor time in microseconds a message:\n");
-    println!("| bytes | two sendto | sender | ratio | one recvfrom | a receiver | ratio | sleeps: sender, receiver | by itself |");
-    println!("|---|---|---|---|---|---|---|---|---|");
+    println!(
+        "| bytes | | node | NORM | bare calls | node to NORM | node to bare | sleeps: node, NORM |"
+    );
+    println!("|---|---|---|---|---|---|---|---|");
     for (bytes, strokes) in SIZES {
-        print_costs(&program, bytes, strokes);
+        print_costs(&program, peers.as_deref(), bytes, strokes);
     }
     println!();
-    print_moments(&program);
+    print_moments(&program, peers.as_deref());
     ExitCode::SUCCESS
 }
 
 /// What strokes of a size cost.
-fn print_costs(program: &Path, bytes: usize, strokes: usize) {
+fn print_costs(program: &Path, peers: Option<&Path>, bytes: usize, strokes: usize) {
     let messages = (strokes * SESSIONS) as f64;
     let bare = bare::measure(bytes + HEAD, strokes * SESSIONS);
-    let (send, receive) = (bare.send / messages, bare.receive / messages);
+    let bare = [bare.send / messages, bare.receive / messages];
     let session = |members| Session {
         program,
         members,
         strokes,
         bytes,
     };
-    let three = costs_of(session(3));
-    let alone = costs_of(session(1));
-    let sender = three[0].micros;
-    let receiver = (three[1].micros + three[2].micros) / 2.0;
-    let sleeps = (three[1].sleeps + three[2].sleeps) / 2.0;
+    let node = at_both_ends(&costs_of(session(3)));
+    let norm = peers.map(|peers| at_both_ends(&costs_of_norm(peers, strokes, bytes)));
+    for (end, name) in ["sender", "a receiver"].into_iter().enumerate() {
+        let (micros, bare) = (node[end].micros, bare[end]);
+        let [cost, ratio, sleeps] = match norm.map(|norm| norm[end]) {
+            Some(it) => {
+                [it.micros, micros / it.micros, it.sleeps].map(|number| format!("{number:.2}"))
+            }
+            None => [const { String::new() }; 3],
+        };
+        println!(
+            "| {bytes} | {name} | {micros:.2} | {cost} | {bare:.2} | {ratio} | {:.2} | {:.2}, {sleeps} |",
+            micros / bare,
+            node[end].sleeps
+        );
+    }
     println!(
-        "| {bytes} | {send:.2} | {sender:.2} | {:.2} | {receive:.2} | {receiver:.2} | {:.2} | {:.2}, {sleeps:.2} | {:.2} |",
-        sender / send,
-        receiver / receive,
-        three[0].sleeps,
-        alone[0].micros,
+        "| {bytes} | alone, dealing and printing | {:.2} | | | | | |",
+        costs_of(session(1))[0].micros
     );
+}
+
+/// What a message costs the sender, and a receiver in the mean.
+fn at_both_ends(three: &[Each]) -> [Each; 2] {
+    let receiver = Each {
+        micros: (three[1].micros + three[2].micros) / 2.0,
+        sleeps: (three[1].sleeps + three[2].sleeps) / 2.0,
+    };
+    [three[0], receiver]
+}
+
+/// What a message costs the sender and each receiver over NORM, over all sessions. What they cost without messages is taken off.
+fn costs_of_norm(peers: &Path, messages: usize, bytes: usize) -> Vec<Each> {
+    let mut costs = vec![Each::default(); 3];
+    let all = (messages * SESSIONS) as f64;
+    for _ in 0..SESSIONS {
+        for (count, sign) in [(messages, 1.0), (0, -1.0)] {
+            let ran = norm::run(peers, count, bytes);
+            let [first, second] = ran.receivers;
+            for (cost, it) in costs.iter_mut().zip([ran.sender, first, second]) {
+                cost.micros += sign * it.micros / all;
+                cost.sleeps += sign * it.sleeps as f64 / all;
+            }
+        }
+    }
+    costs
 }
 
 /// What a message costs a member.
@@ -106,7 +147,7 @@ fn costs_of(session: Session<'_>) -> Vec<Each> {
 }
 
 /// How long strokes take from being typed to being taken by both others.
-fn print_moments(program: &Path) {
+fn print_moments(program: &Path, peers: Option<&Path>) {
     let (lines, bytes) = AT_ONCE;
     let mut session = live::Session::start(program);
     let whole = session.whole(lines, bytes);
@@ -114,6 +155,10 @@ fn print_moments(program: &Path) {
         "{lines} strokes of {bytes} bytes, typed at once: {:.2} s until both others took all",
         whole.as_secs_f64()
     );
+    if let Some(peers) = peers {
+        let norm = norm::run(peers, lines, bytes).whole;
+        println!("the same over NORM: {:.2} s", norm.as_secs_f64());
+    }
     thread::sleep(Duration::from_secs(1));
     let mut each: Vec<Duration> = (0..LINES)
         .map(|_| {

@@ -1,9 +1,9 @@
 //! What it costs to put the journals of a session together: processor time of a process that does, beyond one that only makes them, and
-//! instructions where valgrind is there.
+//! instructions where valgrind is there. With the words of one run it makes that run alone, as `refuse-audit` does with memory refused to it.
 
-use srm_bench::sessions::{Kind, MEMBERS, play};
+use srm_bench::sessions::{Fault, Kind, MEMBERS, play};
 use std::mem::MaybeUninit;
-use std::process::Command;
+use std::process::{Command, ExitCode};
 
 unsafe extern "C" {
     fn clock_gettime(clock: i32, time: *mut Time) -> i32;
@@ -28,12 +28,13 @@ const SIZES: [usize; 3] = [100_000, 300_000, 1_000_000];
 /// How many turns show how many entries a turn has.
 const FEW: u32 = 500;
 
-fn main() {
+fn main() -> ExitCode {
     let words: Vec<String> = std::env::args().skip(1).collect();
-    match Run::read(&words) {
-        Some(run) => run.make(),
-        None => report_all(),
+    if let Some(run) = Run::read(&words) {
+        return run.make();
     }
+    report_all();
+    ExitCode::SUCCESS
 }
 
 /// What a process does.
@@ -56,10 +57,17 @@ impl Run {
         Some(Run { kind, turns: turns.parse().ok()?, reconciles: reconciles.parse().ok()? })
     }
 
-    /// Does it, and prints how many entries there are and how many seconds it took.
-    fn make(self) {
-        let entries = play(self.kind, self.turns, self.reconciles);
-        println!("{entries} {}", process_seconds());
+    /// Does it, and prints how many entries there are and how many seconds it took. The status is 4 where memory ran out, and 1 where the
+    /// journals don't fit.
+    fn make(self) -> ExitCode {
+        match play(self.kind, self.turns, self.reconciles) {
+            Ok(entries) => {
+                println!("{entries} {}", process_seconds());
+                ExitCode::SUCCESS
+            }
+            Err(Fault::Memory) => ExitCode::from(4),
+            Err(Fault::Mismatch) => ExitCode::FAILURE,
+        }
     }
 
     /// How many entries a process of its own has that does it, and how many seconds that took.
@@ -97,7 +105,8 @@ fn report_all() {
 }
 
 fn report(kind: Kind, size: usize) {
-    let turns = size as f64 / play(kind, FEW, false) as f64 * f64::from(FEW);
+    let few = play(kind, FEW, false).expect("a session");
+    let turns = size as f64 / few as f64 * f64::from(FEW);
     let making = Run { kind, turns: turns as u32, reconciles: false };
     let whole = Run { reconciles: true, ..making };
     let (made, least) = least_of(making);

@@ -20,6 +20,7 @@ use crate::group::{Group, Places, Plan, Waits};
 use crate::moments::Moments;
 use crate::sessions::{mingled, talked};
 use crate::teller::Teller;
+use srm_audit::Mismatch;
 use std::alloc::Global;
 
 /// The agent of member `me` of so many makes `count` calls that bytes say, as [`Caller::make`](crate::caller::Caller) reads them, and writes what
@@ -63,7 +64,7 @@ pub extern "C" fn srm_moments(alloc: Global, names: u32, turns: u32, sets: bool)
 /// So many members make calls over so many turns. If it `mingles`, in each turn one draws and all tick and give, and most of what is sent comes;
 /// else two draw and hear each other by turns, and all others hear the last of all alone, so that whoever puts the journals together finds
 /// them waiting until the end. The journals are put together if it `reconciles`. How many entries they have in all, what was taken included; the
-/// greatest number where memory ran out or the journals don't fit.
+/// greatest number where memory ran out, and the one below it where the journals don't fit.
 #[unsafe(no_mangle)]
 pub extern "C" fn srm_sessions(
     alloc: Global,
@@ -77,9 +78,14 @@ pub extern "C" fn srm_sessions(
     } else {
         talked(alloc, members, turns)
     };
-    session
-        .and_then(|session| session.end(reconciles))
-        .unwrap_or(usize::MAX)
+    let Some(session) = session else {
+        return usize::MAX;
+    };
+    match session.end(reconciles) {
+        Ok(entries) => entries,
+        Err(Mismatch::Memory) => usize::MAX,
+        Err(_) => usize::MAX - 1,
+    }
 }
 
 /// A group loses drawops of member 0 and repairs them. It has a member for each seed of random numbers, 1 to 32, all with these waits; the ways

@@ -6,7 +6,7 @@ ghost use Rattle.srm_names.specs.declared.limits.TheConstants.{LATEST_MOMENT};
 use crate::clock::Clock;
 use crate::lists::Lists;
 use bytes::Bytes;
-use srm_audit::reconcile;
+use srm_audit::{Mismatch, reconcile};
 use srm_rig_members::{config_at, count_entries, finish_all};
 use srm_timers::{Pcg, Words};
 use srm_world::Recorder;
@@ -136,21 +136,21 @@ impl Session {
         self.lists.add(place, given)
     }
 
-    /// How many entries the journals have in all, and the lists as takes. They are put together if it `reconciles`; `None` where they don't
-    /// fit either.
-    pub fn end(self, reconciles: bool) -> Option<usize> {
+    /// How many entries the journals have in all, and the lists as takes. They are put together if it `reconciles`.
+    pub fn end(self, reconciles: bool) -> Result<usize, Mismatch> {
         let Session {
             alloc,
             recorders,
             lists,
             ..
         } = self;
-        let journals = finish_all(alloc, recorders).ok()?;
+        let journals = finish_all(alloc, recorders)?;
         if !reconciles {
-            return count_entries(&journals).checked_add(lists.count());
+            return Ok(count_entries(&journals).saturating_add(lists.count()));
         }
-        let trace = reconcile(alloc, journals, lists.into_gots(alloc)?).ok()?;
-        Some(trace.entries().len())
+        let gots = lists.into_gots(alloc).ok_or(Mismatch::Memory)?;
+        let trace = reconcile(alloc, journals, gots)?;
+        Ok(trace.entries().len())
     }
 }
 
