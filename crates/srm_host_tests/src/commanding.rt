@@ -1,14 +1,11 @@
 //! Commands of another thread to a node that runs.
 
-ghost use Rattle.std.specs.Prelude.{◌≡◌, vec_len};
-ghost use Rattle.srm_names.specs.declared.limits.TheConstants.{PAGES};
-
 use crate::hosted::host_station;
 use crate::sinks::plain_sinks;
 use crate::station::{SteppedStation, alone};
 use srm_agent::{Entry, Input};
 use srm_control::{PageAnswer, PageCommand, PageControl};
-use srm_names::Page;
+use srm_names::{PAGES, Page};
 use srm_node::Hosted;
 use srm_pages::Pen;
 use srm_rig_nodes::{Station, end_all};
@@ -65,9 +62,11 @@ fn host_node<R: Threads + Wait + Abort + Copy + Send + Drop + 'static>(
     rt: &R,
     alloc: Global,
     station: SteppedStation<R>,
-) -> Hosted
-    requires { vec_len station.taps ≡ PAGES }
-{
+) -> Hosted {
+    // A closure that takes a station knows nothing of its taps.
+    if station.taps.len() != usize::from(PAGES) {
+        panic!(rt; "a tap for each slot");
+    }
     let sinks = plain_sinks(rt, alloc, false);
     host_station(rt, alloc, station, sinks, 1_000_000)
 }
