@@ -6,7 +6,7 @@ mod standard_streams;
 use crate::standard_streams::{STDIN, fill_standard_streams};
 use srm_live::{PolledInput, run_live};
 use srm_member::{print_reply, run_node};
-use srm_options::{read_node, read_picture, read_world};
+use srm_options::{read_node_on, read_picture, read_world};
 use srm_played::run_picture;
 use srm_script::{Dialect, ScriptFault, WRONG_USAGE, run_script_in};
 use std::alloc::{AllocError, Global};
@@ -27,7 +27,7 @@ fn main(rt: HostRuntime) -> ExitCode {
         return ExitCode::from(ScriptFault::Memory.print(&mut err));
     };
     let status = match texts.as_slice() {
-        ["node", arguments @ ..] => match read_node(alloc, arguments) {
+        ["node", arguments @ ..] => match read_node_on(&rt, alloc, arguments) {
             Ok(options) if options.live => {
                 let input = PolledInput::new(&rt, alloc, rt.stdin(), STDIN);
                 run_live(&rt, options, input, rt.stdout(), rt.stderr())

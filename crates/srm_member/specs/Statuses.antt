@@ -79,8 +79,9 @@ status_of_member (fault.Key cause) = FAILED
 abbrev pub IsStatus : ℕ → Type 0
 IsStatus status = IsStatusBy status_of_member status
 
--- What was asked for is shown, unless the output fails; a wrong line and want of memory have statuses of their own.
+-- What was asked for is shown, unless the output fails; a wrong line, a name that isn't found and want of memory have statuses of their own.
 abbrev pub StatusOf : Reply → ℕ → Type 0
 StatusOf (reply.Help text) status = (status ≡ 0) ⊎ (status ≡ FAILED) ⊎ (status ≡ RAN_OUT)
 StatusOf (reply.Wrong text) status = status ≡ WRONG_USAGE
+StatusOf (reply.Unresolved text) status = status ≡ WIRE_FAILED
 StatusOf reply.Memory status = status ≡ RAN_OUT

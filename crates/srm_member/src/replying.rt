@@ -3,7 +3,7 @@
 ghost use Rattle.srm_member.specs.Statuses.{StatusOf};
 
 use srm_options::Reply;
-use srm_script::{ScriptFault, WRONG_USAGE};
+use srm_script::{ScriptFault, WIRE_FAILED, WRONG_USAGE};
 use std::io::Write;
 
 /// Prints what a command line gets in place of being done: the help or version that it asks for to `out`, what is wrong in it to `err`.
@@ -21,6 +21,10 @@ pub fn print_reply<O: Write, E: Write>(reply: &Reply, out: &mut O, err: &mut E) 
             // Where this can't be written there is nobody left to tell.
             let _ = write!(err, "{text}");
             WRONG_USAGE
+        }
+        Reply::Unresolved(text) => {
+            let _ = writeln!(err, "{text}");
+            WIRE_FAILED
         }
         Reply::Memory => ScriptFault::Memory.print(err),
     }

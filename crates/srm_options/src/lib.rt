@@ -20,10 +20,11 @@ mod node;
 mod node_options;
 mod picture;
 mod reply;
+mod resolving;
 mod world;
 
 pub use guard_options::{GuardOptions, MOST_MISSING};
-pub use node::read_node;
+pub use node::{read_node, read_node_on};
 pub use node_options::NodeOptions;
 pub use picture::read_picture;
 pub use reply::{Reply, Text};

@@ -2,6 +2,7 @@
 
 use srm_names::MEMBERS;
 use srm_timers::GREATEST_TIMER_SETTING;
+use std::io::ErrorKind;
 use thiserror::Error;
 
 /// What is wrong in a command line that has all its options.
@@ -9,6 +10,12 @@ use thiserror::Error;
 pub enum Mistake<'a> {
     #[error("'{0}' is no IPv4 address with a port, as 127.0.0.1:47100 is one")]
     Address(&'a str),
+    #[error("'{0}' is no address with a port, as 127.0.0.1:47100, [::1]:47100 or host:47100")]
+    Host(&'a str),
+    #[error("srm: cannot resolve {0}: {1}")]
+    Unresolved(&'a str, ErrorKind),
+    #[error("the addresses are of IPv4 and of IPv6: all members need one of the same kind")]
+    Families,
     #[error("there are more than {MEMBERS} addresses")]
     TooMany,
     #[error("'--me <M>' is no place in the list of addresses, the first of which has the place 0")]

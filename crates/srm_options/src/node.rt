@@ -10,6 +10,7 @@ use crate::live_defaults::{LIVE_LINGER, live_settings};
 use crate::mistake::Mistake;
 use crate::node_options::{LONGEST_LINGER, NodeOptions};
 use crate::reply::Reply;
+use crate::resolving::{NoNames, Resolve, System, resolved};
 use clap::error::ErrorKind;
 use clap::{Arg, ArgAction, ArgMatches, Command, value_parser};
 use srm_bucket::{GREATEST_DEPTH, GREATEST_RATE, LEAST_DEPTH, LEAST_RATE};
@@ -17,7 +18,7 @@ use srm_entries::{Config, Settings};
 use srm_names::{LATEST_MOMENT, LONGEST_DISTANCE, MEMBERS, Member};
 use srm_timers::GREATEST_TIMER_SETTING;
 use std::alloc::{AllocError, Global};
-use std::net::{SocketAddr, SocketAddrV4};
+use std::net::{Net, SocketAddr, SocketAddrV4};
 
 /// Without `--stay` a node leaves after so many microseconds.
 const STAY: u64 = 5_000_000;
@@ -29,9 +30,30 @@ const TURNS: u64 = 1_000_000;
 pub fn read_node<'a>(alloc: Global, arguments: &'a [&'a str]) -> Result<NodeOptions, Reply>
     ensures { IfOk result AreInRange }
 {
+    read_with(alloc, arguments, &NoNames)
+}
+
+/// The same, and a live member's addresses may be names of hosts, which it asks the system for. A [`Reply`] tells too which name wasn't found.
+pub fn read_node_on<'a, R: Net + Copy>(
+    rt: &R,
+    alloc: Global,
+    arguments: &'a [&'a str],
+) -> Result<NodeOptions, Reply>
+    ensures { IfOk result AreInRange }
+{
+    read_with(alloc, arguments, &System(*rt))
+}
+
+fn read_with<'a, S: Resolve>(
+    alloc: Global,
+    arguments: &'a [&'a str],
+    names: &S,
+) -> Result<NodeOptions, Reply>
+    ensures { IfOk result AreInRange }
+{
     let mut command = node_command(alloc, is_live(arguments))?;
     let matches = command.try_get_matches_from_mut(arguments)?;
-    let options = match options_in(alloc, &matches) {
+    let options = match options_in(alloc, &matches, names) {
         Ok(options) => options,
         Err(mistake) => return Err(told(alloc, &mut command, mistake)),
     };
@@ -185,7 +207,9 @@ pub(crate) fn flag<'a>(alloc: Global, name: &'a str, help: &'a str) -> Arg<'a> {
 
 fn with_addresses<'a>(alloc: Global, command: Command<'a>) -> Result<Command<'a>, AllocError> {
     let addresses = Arg::new(alloc, "ADDR")
-        .help("IPv4 address and port of each member, 1 to 32, as 127.0.0.1:47100")
+        .help(
+            "IPv4 address and port of each member, 1 to 32, as 127.0.0.1:47100; with --live, also [::1]:47100 or host:47100",
+        )
         .action(ArgAction::Append)
         .num_args(1..)
         .required(true);
@@ -193,12 +217,16 @@ fn with_addresses<'a>(alloc: Global, command: Command<'a>) -> Result<Command<'a>
 }
 
 /// What the arguments say.
-fn options_in<'a>(alloc: Global, matches: &ArgMatches<'a>) -> Result<NodeOptions, Mistake<'a>> {
+fn options_in<'a, S: Resolve>(
+    alloc: Global,
+    matches: &ArgMatches<'a>,
+    names: &S,
+) -> Result<NodeOptions, Mistake<'a>> {
     let texts = matches.get_strs("ADDR").unwrap_or(&[]);
-    let addresses = addresses_in(alloc, texts)?;
+    let live = matches.get_flag("live");
+    let addresses = addresses_in(alloc, texts, live, names)?;
     let me = member_in(matches, addresses.len()).ok_or(Mistake::NoPlace)?;
     let session = matches.get_one::<u32>("session").ok_or(Mistake::Range)?;
-    let live = matches.get_flag("live");
     let settings = settings_in(matches, live)?;
     let Ok(members) = u8::try_from(addresses.len()) else {
         return Err(Mistake::TooMany);
@@ -314,10 +342,24 @@ fn wait_in(text: &str) -> Option<u8> {
     }
 }
 
-fn addresses_in<'a>(alloc: Global, texts: &[&'a str]) -> Result<Vec<SocketAddr>, Mistake<'a>> {
+// Returns the addresses of all members. Those of a live member may be IPv6, and names.
+fn addresses_in<'a, S: Resolve>(
+    alloc: Global,
+    texts: &[&'a str],
+    live: bool,
+    names: &S,
+) -> Result<Vec<SocketAddr>, Mistake<'a>> {
     if texts.len() > usize::from(MEMBERS) {
         return Err(Mistake::TooMany);
     }
+    if live {
+        resolved(alloc, texts, names)
+    } else {
+        plain_addresses(alloc, texts)
+    }
+}
+
+fn plain_addresses<'a>(alloc: Global, texts: &[&'a str]) -> Result<Vec<SocketAddr>, Mistake<'a>> {
     let mut addresses = Vec::new(alloc);
     for text in texts {
         let Ok(address) = text.parse::<SocketAddrV4>() else {
@@ -358,6 +400,7 @@ fn told<'a>(alloc: Global, command: &mut Command<'a>, mistake: Mistake<'a>) -> R
         return Reply::Memory;
     }
     match format!(in alloc; "{mistake}") {
+        Ok(text) if matches!(mistake, Mistake::Unresolved(..)) => Reply::Unresolved(text),
         Ok(text) => Reply::to(command, ErrorKind::ValueValidation, text.as_str()),
         Err(_) => Reply::Memory,
     }

@@ -12,6 +12,8 @@ pub enum Reply {
     Help(Text),
     /// What is wrong in it.
     Wrong(Text),
+    /// An address in it names a host that can't be found: the line that standard error gets.
+    Unresolved(String),
     /// Memory ran out.
     Memory,
 }
