@@ -76,7 +76,7 @@ pub(crate) fn node_command<'a>(alloc: Global, live: bool) -> Result<Command<'a>,
         .no_binary_name(true)
         .about(NODE)
         .after_help(NODE_MORE);
-    let command = with_limits(alloc, with_member(alloc, command)?, live)?;
+    let command = with_limits(alloc, with_member(alloc, command, live)?, live)?;
     with_addresses(alloc, with_guard(alloc, command)?)
 }
 
@@ -89,7 +89,11 @@ pub(crate) fn option<'a>(alloc: Global, name: &'a str, value: &'a str, help: &'a
         .action(ArgAction::Set)
 }
 
-fn with_member<'a>(alloc: Global, command: Command<'a>) -> Result<Command<'a>, AllocError> {
+fn with_member<'a>(
+    alloc: Global,
+    command: Command<'a>,
+    live: bool,
+) -> Result<Command<'a>, AllocError> {
     let session = option(alloc, "session", "S", "number of the session, below 2^32")
         .required(true)
         .value_parser(value_parser!(u32));
@@ -105,7 +109,11 @@ fn with_member<'a>(alloc: Global, command: Command<'a>) -> Result<Command<'a>, A
         alloc,
         "start",
         "N",
-        "start of the random waits, below 2^64; else 0",
+        if live {
+            "start of the random waits, below 2^64; else the member's number"
+        } else {
+            "start of the random waits, below 2^64; else 0"
+        },
     )
     .value_parser(value_parser!(u64));
     command.arg(session)?.arg(me)?.arg(start)
@@ -240,7 +248,7 @@ fn options_in<'a, S: Resolve>(
     let turns = if live { u64::MAX } else { TURNS };
     Ok(NodeOptions {
         config,
-        seed: matches.get_one::<u64>("start").unwrap_or(0),
+        seed: start_in(matches, live, me),
         stay,
         linger: linger_in(matches, live)?,
         turns: matches.get_one::<u64>("turns").unwrap_or(turns),
@@ -249,6 +257,12 @@ fn options_in<'a, S: Resolve>(
         guard: guard_in(alloc, matches, live)?,
         addresses,
     })
+}
+
+/// What the member's random waits start from. Members that start alike choose alike, so those that are live differ.
+fn start_in(matches: &ArgMatches, live: bool, me: Member) -> u64 {
+    let usual = if live { u64::from(me.number()) } else { 0 };
+    matches.get_one::<u64>("start").unwrap_or(usual)
 }
 
 /// What the member may send and how long it waits.

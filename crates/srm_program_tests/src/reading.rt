@@ -126,6 +126,27 @@ fn a_live_member_turns_as_often_as_it_takes(rt: HostRuntime) {
     }
 }
 
+fn start_of(alloc: Global, line: &str) -> Option<u64> {
+    Some(options_of(alloc, line)?.seed)
+}
+
+// Members whose waits start alike speak at the same time.
+#[test]
+fn the_waits_of_live_members_start_apart(rt: HostRuntime) {
+    for (words, start) in [
+        ("--me 1", 0),
+        ("--me 0 --live", 0),
+        ("--me 1 --live", 1),
+        ("--me 1 --live --start 13", 13),
+    ] {
+        let told = match format!(in rt.alloc(); "--session 7 {words} 127.0.0.1:1 127.0.0.1:2") {
+            Ok(line) => start_of(rt.alloc(), line.as_str()),
+            Err(_) => None,
+        };
+        assert_eq!(rt; told, Some(start), "{words}");
+    }
+}
+
 /// Whether the member of a command line keeps to its roster, whether it has a key, and how many drawops it may miss.
 fn guard_of(alloc: Global, line: &str) -> Option<(bool, bool, Option<u32>)> {
     let guard = options_of(alloc, line)?.guard;
