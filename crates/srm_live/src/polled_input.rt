@@ -13,9 +13,9 @@ use std::os::fd::RawFd;
 use std::time::Duration;
 
 /// How long a read waits for the first byte, at most, in microseconds.
-const WAIT: u64 = 10_000;
+const WAIT: u64 = 250_000;
 
-/// An input of the system whose reads wait 10,000 microseconds at most: a read that finds nothing returns `WouldBlock`. So a thread that reads can see that the member ends, while nobody
+/// An input of the system whose reads wait 250,000 microseconds at most: a read that finds nothing returns `WouldBlock`. So a thread that reads can see that the member ends, while nobody
 /// types. If the system can't tell whether something is there, as of a file, a read waits as long as it takes. Contracts see it as its reader.
 #[derive(Drop)]
 pub struct PolledInput<I> {

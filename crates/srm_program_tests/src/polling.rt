@@ -8,7 +8,7 @@ use std::process::Abort;
 use std::test::Fail;
 use std::time::{Clock, Duration, Instant};
 
-/// A read of up to two bytes answers so many, or none where nothing is there yet, after 10,000 microseconds and not much later.
+/// A read of up to two bytes answers so many, or none where nothing is there yet, after 250,000 microseconds and not much later.
 fn assert_reads<I: Read>(
     rt: &(impl Abort + Clock),
     input: &mut I,
@@ -17,7 +17,7 @@ fn assert_reads<I: Read>(
     let start = Instant::now(rt)?;
     assert_answers(rt, input, wanted);
     let passed = start.elapsed(rt)?;
-    assert!(rt; wanted.is_some() || passed >= Duration::from_micros(10_000));
+    assert!(rt; wanted.is_some() || passed >= Duration::from_micros(250_000));
     assert!(rt; passed < Duration::from_secs(2));
     Ok(())
 }
