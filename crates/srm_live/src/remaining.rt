@@ -6,7 +6,7 @@ use std::thread;
 use std::time::{Clock, Duration, Instant};
 
 /// The longest sleep, in microseconds: so late it may be seen that the node has ended.
-const NAP: u64 = 10_000;
+const NAP: u64 = 250_000;
 
 /// Lets so much time pass, or less where the node has ended or the clock can't be read. Whether it passed.
 pub fn remain<R: Clock + Wait>(rt: &R, time: Duration, ended: &AtomicBool) -> bool {
