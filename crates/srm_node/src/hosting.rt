@@ -146,8 +146,9 @@ fn go<
 ) -> (Hosted<P, L>, Well)
     requires room { vec_len worked + length workers.items ≤ vec_capacity worked }
     requires none { worked.items ≡ [] }
-    ensures { MatchResult result.0.end (λ _. (all ≡ true) × HostsWith (calls_of C.reads X.receives X.sends X.pauses) (kinds_of L.appended L.is_refused S.sees) node.view (map start_of workers.items) turns result.1 result.0)
+    ensures ends { MatchResult result.0.end (λ _. (all ≡ true) × HostsWith (calls_of C.reads X.receives X.sends X.pauses) (kinds_of L.appended L.is_refused S.sees) node.view (map start_of workers.items) turns result.1 result.0)
         (λ fault. HostFailsWith (calls_of C.reads X.receives X.sends X.pauses) (kinds_of L.appended L.is_refused S.sees) all node.view (map start_of workers.items) turns fault result.1 result.0) }
+    ensures each { WorkedEach (kinds_of L.appended L.is_refused S.sees) (map start_of workers.items) result.0.worked.items }
 {
     let mut node = node;
     let end = run_if(rt, &mut node, all, turns);
