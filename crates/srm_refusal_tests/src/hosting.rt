@@ -3,12 +3,15 @@
 ghost use Rattle.std.specs.Prelude.{◌≡◌, vec_len};
 ghost use Rattle.srm_names.specs.declared.limits.TheConstants.{PAGES};
 
+use crate::again::room;
 use crate::rig::{Rig, make};
-use srm_node::{Hosted, NodeFault, WorkEnd, Worked, host};
+use srm_names::{PAGES, PageMsg};
+use srm_node::{Hosted, NodeFault, PageSink, WorkEnd, Worked, host};
 use srm_rig_nodes::{Plain, Replay, Station, plain_sinks};
 use std::alloc::Global;
 use std::process::Abort;
-use std::sync::Wait;
+use std::sync::atomic::{AtomicU64, Ordering};
+use std::sync::{Arc, Wait};
 use std::thread::Threads;
 
 /// A sink for each slot, which takes all.
@@ -24,12 +27,10 @@ fn sinks(rt: &impl Abort, alloc: Global) -> Vec<Plain>
     }
 }
 
-fn host_rig<R: Threads + Wait + Abort + Copy + Send + Drop + 'static>(
-    rt: &R,
-    alloc: Global,
-    rig: Rig<Replay>,
-    sinks: Vec<Plain>,
-) -> Option<Hosted>
+fn host_rig<
+    R: Threads + Wait + Abort + Copy + Send + Drop + 'static,
+    S: PageSink + Send + Drop + 'static,
+>(rt: &R, alloc: Global, rig: Rig<Replay>, sinks: Vec<S>) -> Option<Hosted>
     requires taps { vec_len rig.taps ≡ PAGES }
     requires sinks { vec_len sinks ≡ PAGES }
 {
@@ -41,14 +42,16 @@ fn host_rig<R: Threads + Wait + Abort + Copy + Send + Drop + 'static>(
 }
 
 /// Hosts the only member of a session, which draws three strokes and leaves. None where memory was refused before any worker was started.
-fn try_host<R: Threads + Wait + Abort + Copy + Send + Drop + 'static>(
-    rt: &R,
-    alloc: Global,
-) -> Option<Hosted> {
+fn try_host<
+    R: Threads + Wait + Abort + Copy + Send + Drop + 'static,
+    S: PageSink + Send + Drop + 'static,
+>(rt: &R, alloc: Global, sinks: Vec<S>) -> Option<Hosted>
+    requires { vec_len sinks ≡ PAGES }
+{
     // A wire over which nothing comes, and which takes all. It needs no memory.
     let wire = Replay::new(Vec::new(alloc));
     match make(rt, alloc, 0, 1, wire, b"abc") {
-        Some(rig) => host_rig(rt, alloc, rig, sinks(rt, alloc)),
+        Some(rig) => host_rig(rt, alloc, rig, sinks),
         None => None,
     }
 }
@@ -84,15 +87,61 @@ fn check_hosted(rt: &impl Abort, hosted: &Hosted) {
 
 /// Before any worker was started memory was refused, which it isn't again.
 fn check_again<R: Threads + Wait + Abort + Copy + Send + Drop + 'static>(rt: &R, alloc: Global) {
-    let hosted = try_host(rt, alloc).expect(rt, "a host");
+    let hosted = try_host(rt, alloc, sinks(rt, alloc)).expect(rt, "a host");
     assert_eq!(rt; hosted.end, Ok(()));
     check_served(rt, hosted.worked.as_slice());
 }
 
 #[test]
 fn a_host_ends_whole_or_for_want_of_memory(rt: HostRuntime) {
-    match try_host(&rt, rt.alloc()) {
+    match try_host(&rt, rt.alloc(), sinks(&rt, rt.alloc())) {
         Some(hosted) => check_hosted(&rt, &hosted),
         None => check_again(&rt, rt.alloc()),
+    }
+}
+
+/// A sink that takes all, and counts what it sees beside the others.
+#[derive(Drop)]
+struct Counting {
+    seen: Arc<AtomicU64, Global>,
+}
+
+impl PageSink for Counting {
+    fn message(&mut self, _slot: u8, _message: &PageMsg) -> bool {
+        self.seen.fetch_add(1, Ordering::SeqCst);
+        true
+    }
+}
+
+fn new_count(rt: &impl Abort, alloc: Global) -> Arc<AtomicU64, Global> {
+    match Arc::new(alloc, AtomicU64::new(0)) {
+        Ok(count) => count,
+        Err(_) => Arc::new(alloc, AtomicU64::new(0)).expect(rt, "memory"),
+    }
+}
+
+/// A sink for each slot, all of which count here.
+fn counting(rt: &impl Abort, alloc: Global, seen: &Arc<AtomicU64, Global>) -> Vec<Counting> {
+    let mut sinks = room(rt, alloc, usize::from(PAGES));
+    for _ in 0..PAGES {
+        let seen = Arc::try_clone(seen).expect(rt, "a count");
+        if sinks.push(Counting { seen }).is_err() {
+            panic!(rt; "room");
+        }
+    }
+    sinks
+}
+
+// The first turn opens the first page, so a worker that was started shows its sink something at last.
+#[test]
+fn a_host_that_fails_has_started_no_worker(rt: HostRuntime) {
+    let alloc = rt.alloc();
+    let seen = new_count(&rt, alloc);
+    let sinks = counting(&rt, alloc, &seen);
+    if sinks.len() != usize::from(PAGES) {
+        panic!(rt; "a sink for each slot");
+    }
+    if try_host(&rt, alloc, sinks).is_none() {
+        assert_eq!(rt; seen.load(Ordering::SeqCst), 0);
     }
 }
