@@ -34,9 +34,13 @@ const LONGEST: usize = 70_000;
 /// What a server shows of its member, and to whom.
 #[derive(Drop)]
 pub struct Face {
+    /// The number of the member, 0 to 31.
     pub me: u8,
+    /// How many members the session has, 1 to 32.
     pub members: u8,
+    /// The number of the session.
     pub session: u32,
+    /// Whom the server answers.
     pub guard: Guard,
 }
 
@@ -47,7 +51,8 @@ pub struct Door {
 }
 
 impl Door {
-    /// Waits for all threads, which end once the slate has ended: after 200 ms or so, and after 10 s at most if a slow browser keeps a write waiting.
+    /// Waits for all threads. Call [`Slate::end`] first: without it they don't end. Then each ends within a second, or once the answer that it writes is written,
+    /// where a slow browser may make each write wait 10 s.
     pub fn close<R: Threads>(self, rt: &R) {
         for thread in self.threads {
             thread.join(rt);
@@ -55,9 +60,10 @@ impl Door {
     }
 }
 
-/// Serves a member's slate to the browsers that come to a listener whose `accept` doesn't wait, by 25 threads.
+/// Serves a member's slate to the browsers that come to a listener, by 25 threads: 24 serve a connection each, and 64 connections wait. Precondition: the listener
+/// doesn't block (`set_nonblocking`), or the threads don't end.
 ///
-/// Returns `None` if there is no memory, no thread or no randomness. The threads that it started by then end with the slate.
+/// Returns `None` if out of memory, if a thread can't be started, or if the system has no randomness. The threads that it had started end then.
 pub fn open_door<R, K>(
     rt: &R,
     alloc: Global,
@@ -79,14 +85,33 @@ where
     };
     let shown = Arc::new(alloc, shown).ok()?;
     let hall = Arc::new(alloc, Hall::new(alloc)).ok()?;
+    let Some(threads) = start_all(rt, alloc, listener, for_porter, &shown, &hall) else {
+        // Those that were started wait for connections.
+        hall.close(rt);
+        return None;
+    };
+    Some(Door { threads })
+}
+
+fn start_all<R, K>(
+    rt: &R,
+    alloc: Global,
+    listener: TcpListener,
+    slate: Arc<Slate, Global>,
+    shown: &Arc<Shown<K>, Global>,
+    hall: &Arc<Hall, Global>,
+) -> Option<Vec<JoinHandle<()>>>
+where
+    R: time::Clock + Threads + Wait + RandomSource + Copy + Send + Drop + 'static,
+    K: Easel + Send + Sync + Drop + 'static,
+{
     let mut threads = Vec::new(alloc);
     for _ in 0..SERVED {
-        threads.push(start_desk(rt, alloc, &shown, &hall)?).ok()?;
+        threads.push(start_desk(rt, alloc, shown, hall)?).ok()?;
     }
-    threads
-        .push(start_porter(rt, listener, for_porter, hall)?)
-        .ok()?;
-    Some(Door { threads })
+    let hall = Arc::try_clone(hall).ok()?;
+    threads.push(start_porter(rt, listener, slate, hall)?).ok()?;
+    Some(threads)
 }
 
 // A number by which a page knows that this is another run than the one that it saw.

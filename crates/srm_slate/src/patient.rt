@@ -11,13 +11,19 @@ const PATIENCE: u8 = 25;
 /// What a browser sends. Where nothing comes for long, or the member's run has ended, that is its end.
 #[derive(Drop)]
 pub struct Patient<'a> {
+    /// The connection.
     pub stream: &'a TcpStream,
+    /// Says whether the run has ended.
     pub slate: &'a Slate,
 }
 
 impl Read for Patient<'_> {
     fn read(&mut self, buffer: &mut [u8]) -> io::Result<usize> {
         for _ in 0..PATIENCE {
+            // A browser that goes on sending is no longer served either.
+            if self.slate.has_ended() {
+                return Ok(0);
+            }
             let mut stream = self.stream;
             match stream.read(buffer) {
                 Ok(count) => return Ok(count),
@@ -25,9 +31,6 @@ impl Read for Patient<'_> {
                     ErrorKind::WouldBlock | ErrorKind::TimedOut | ErrorKind::Interrupted => {}
                     _ => return Err(error),
                 },
-            }
-            if self.slate.has_ended() {
-                return Ok(0);
             }
         }
         Ok(0)
