@@ -18,10 +18,10 @@ pub enum PageRefusal {
     /// The member has left.
     #[error("the member has left")]
     Gone = 1,
-    /// The page has no slot, and none is free.
+    /// The page has no page slot, and none is free.
     #[error("the table has no slot for another page")]
     NoSlot = 2,
-    /// No slot is free for a new page, or the member has no number left for one.
+    /// No page slot is free, or the member has no number left for a page.
     #[error("there is no slot or no number for a new page")]
     NoNewPage = 3,
 }
@@ -29,6 +29,8 @@ pub enum PageRefusal {
 /// The answer to a command: the page that is shown from then on, or why nothing changed.
 #[derive(Clone, Copy, Debug, PartialEq, Eq)]
 pub struct PageAnswer {
+    /// The command that it answers.
     pub command: PageCommand,
+    /// The page that is shown from then on, or why the command showed none.
     pub outcome: Result<Page, PageRefusal>,
 }

@@ -1,4 +1,4 @@
-//! The handle by which another thread shows and begins pages.
+//! Shows and begins pages from another thread.
 
 ghost use Rattle.std.specs.Prelude.{◌≡◌, ◌+◌, ◌-◌, ◌≤◌, ◌↔◌, [], ◌∷◌, ◌++◌, Err, OnOk, OnErr, IsNone, MatchOption};
 ghost use Rattle.srm_control.specs.declared.limits.TheConstants.{COMMANDS};
@@ -14,7 +14,7 @@ use thiserror::Error;
 /// Why a control refuses a command. Nothing has changed then.
 #[derive(Clone, Copy, Debug, PartialEq, Eq, Error)]
 pub enum ControlFault {
-    /// Eight commands have no answer yet.
+    /// Eight answers wait to be taken, or are still to come.
     #[error("eight commands have no answer yet")]
     Full = 1,
     /// The node's end is gone.
@@ -22,8 +22,8 @@ pub enum ControlFault {
     Gone = 2,
 }
 
-/// The handle by which one other thread shows and begins pages of a node. Contracts see the commands that it sent and the answers that it took, both in order, and how
-/// many commands have no answer yet.
+/// Shows and begins pages of a node from one other thread. Contracts see the commands that it sent and the answers that it took, both in order, and how many answers
+/// it still has to take.
 #[derive(Drop)]
 pub struct PageControl {
     pub(crate) sender: Sender<PageCommand>,
@@ -57,7 +57,8 @@ impl Model for PageControl {
 impl PageControl {
     /// Sends a command. The node carries out one in each turn, in order, and answers it; a node that pauses should be woken. Never waits, and takes no memory.
     ///
-    /// Returns `Full` exactly if eight commands have no answer yet, and `Gone` if the node's end is gone. Nothing has changed then.
+    /// Returns `Full` exactly if eight commands were sent whose answers weren't taken by [`answer`](PageControl::answer) or
+    /// [`wait_answer`](PageControl::wait_answer), and `Gone` if the node's end is gone. Nothing has changed then.
     pub fn command<R: Wait>(&mut self, rt: &R, command: PageCommand) -> Result<(), ControlFault>
         ensures ok { OnOk result (self.new ≡ record self.old { commanded = self.old.commanded ++ command ∷ []; waiting = self.old.waiting + 1 }) }
         ensures err { OnErr result (self.new ≡ self.old) }
@@ -79,7 +80,8 @@ impl PageControl {
         }
     }
 
-    /// Takes the next answer, in the order of the commands. Returns `None` if none is there yet. Never waits, and takes no memory.
+    /// Takes the next answer, in the order of the commands. Returns `None` if none is there yet, or if none will come: every answer was taken, or the node's end is
+    /// gone and has left none. Never waits, and takes no memory.
     pub fn answer<R: Wait>(&mut self, rt: &R) -> Option<PageAnswer>
         ensures answer { MatchOption result (self.new ≡ self.old) (λ a. self.new ≡ record self.old { answers = self.old.answers ++ a ∷ []; waiting = self.old.waiting - 1 }) }
         ensures none { self.old.waiting ≡ 0 → IsNone result }
@@ -96,7 +98,8 @@ impl PageControl {
         }
     }
 
-    /// Waits for the next answer and takes it. Returns `None` if each command has its answer, or if the node's end is gone and has left none. Takes no memory.
+    /// Waits for the next answer and takes it: as long as the node doesn't turn. Returns `None` if the answer to each command was taken, or if the node's end is
+    /// gone and has left none. Takes no memory.
     pub fn wait_answer<R: Wait>(&mut self, rt: &R) -> Option<PageAnswer>
         ensures answer { MatchOption result (self.new ≡ self.old) (λ a. self.new ≡ record self.old { answers = self.old.answers ++ a ∷ []; waiting = self.old.waiting - 1 }) }
         ensures none { self.old.waiting ≡ 0 → IsNone result }
@@ -113,7 +116,7 @@ impl PageControl {
         }
     }
 
-    /// Returns how many commands have no answer yet, 0 to 8.
+    /// Returns how many commands were sent whose answers weren't taken yet, 0 to 8.
     pub fn waiting(&self) -> u8
         ensures value { result ≡ self.now.waiting }
         ensures most { result ≤ COMMANDS }

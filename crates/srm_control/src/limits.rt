@@ -1,4 +1,4 @@
 //! The limits of a control.
 
-/// Commands of a control without an answer, at most.
+/// The most commands whose answers the control hasn't taken: 8.
 pub const COMMANDS: u8 = 8;

@@ -7,9 +7,13 @@ use std::collections::LinkedList;
 
 /// What a pass knows: whether it puts and what it has put, whether it takes and what it has taken. No value of it is made.
 pub struct LineView<T> {
+    /// Whether it puts.
     pub puts: bool,
+    /// Whether it takes.
     pub takes: bool,
+    /// What it has put.
     pub put: LinkedList<T>,
+    /// What it has taken.
     pub taken: LinkedList<T>,
 }
 

@@ -13,7 +13,7 @@ use crate::line::{LinePass, LineSplit, Receiver, Sender};
 use crossbeam_channel::bounded_with;
 use std::alloc::{AllocError, Global};
 
-/// Makes a control and the node's end of it. No command was sent yet. Fails only if out of memory.
+/// Makes a control and the node's end of it. No command was sent yet. `Node::control` calls it for a node. Fails only if out of memory.
 pub fn page_control(alloc: Global) -> Result<(PageControl, PageCommands), AllocError>
     ensures { IfOk result (λ ends. (ends.0 ≡ new_control ends.0.out ends.0.back) × (ends.1 ≡ new_commands ends.0.out ends.0.back)) }
 {

@@ -7,8 +7,9 @@ use crate::commands::PageCommands;
 use crate::control::PageControl;
 use crate::line::{LineSplit, Total};
 
-/// Puts the two ends of one control together. It shows that nothing was lost, doubled or reordered between them: the commands that were sent are those that the node took
-/// and then those that the line still holds, and the node's answers are those that the control took and then those that the line still holds.
+/// Puts the two ends of one control together, which is a precondition, and drops them. It is there for contracts, which learn by it that nothing was lost, doubled
+/// or reordered: the commands that were sent are those that the node took and then those that the line still holds, and the node's answers are those that the
+/// control took and then those that the line still holds.
 pub fn settle_control(control: PageControl, commands: PageCommands)
     requires { (control.out ≡ commands.out) × (control.back ≡ commands.back) }
     ensures commands { (held : List Command) × (control.commanded ≡ commands.taken ++ held) }

@@ -29,7 +29,7 @@ dropped_more E Below room count buffer f g h is had (bytes, came, drops) = recor
   each = drops_on Below room had.dropped bytes f g h had.each (subst (λ n. Below g.wire n (answered_with bytes) h.wire) is came) drops;
 }
 
--- what comes then ends the receive: it failed, nothing came, or a datagram did
+-- what the wire below returns then ends the receive: a failure, None, or a datagram
 pub ends_failed : {W : Type 0} (E : Type 0) (e : E) (Below : W → ℕ → List (Option (List ℕ)) → W → Type 0) (room count : ℕ) (buffer : List ℕ) (f g h : GuardView W) → length buffer ≡ room → count ≤ 64 → HasDropped Below room count f g → ReceivesOne {E = E} Below buffer (Err e) g h → ReceivesTagged Below (length buffer) [] f h
 ends_failed E e Below room count buffer f g h same few had (came, is) = record {
   dropped = had.dropped;

@@ -38,7 +38,7 @@ counts before room answer after = after ≡ before + 1
 abbrev guard_at : ℕ → ℕ → GuardView ℕ
 guard_at asked excess = record { wire = asked; key = None; limited = true; dropped = record { untagged = 0; excess = excess }; own = 0 }
 
--- one came and was dropped, and then nothing came
+-- one was received and dropped, and then None
 one_dropped_then_none : ReceivesTagged counts 8 none_there (guard_at 0 0) (guard_at 2 1)
 one_dropped_then_none = record {
   dropped = (7 ∷ []) ∷ [];

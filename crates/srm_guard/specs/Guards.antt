@@ -62,7 +62,7 @@ abbrev pub DropsEach : {W : Type 0} → (W → ℕ → List (Option (List ℕ)) 
 DropsEach Below room [] g h = h ≡ g
 DropsEach {W} Below room (bytes ∷ more) g h = (between : GuardView W) × Below g.wire room (answered_with bytes) between.wire × DropsOne g bytes between × DropsEach Below room more between h
 
--- What the guard answers is what the wire below did, less the tag; only behind 64 that were dropped does it answer that nothing came without asking again.
+-- The guard returns what the wire below did, less the tag. Only behind 64 that were dropped it returns None without asking again.
 abbrev pub Brings : {W : Type 0} → (W → ℕ → List (Option (List ℕ)) → W → Type 0) → ℕ → ℕ → List (Option (List ℕ)) → GuardView W → GuardView W → Type 0
 Brings Below room dropped answer g h = ((dropped ≡ 64) × (answer ≡ none_there) × (h ≡ g))
     ⊎ (Below g.wire room (map (option_map (tagged g.key)) answer) h.wire × (h ≡ record g { wire = h.wire }))
@@ -75,7 +75,7 @@ pub record ReceivesTagged {W : Type 0} (Below : W → ℕ → List (Option (List
   pub drops : DropsEach Below room dropped g between
   pub brings : Brings Below room (length dropped) answer between h
 
--- One receive of the wire below, and what it comes to with this buffer: it failed, nothing came, a datagram did, or bytes that are dropped.
+-- One receive of the wire below, and what it comes to with this buffer: a failure, None, a datagram, or bytes that are dropped.
 abbrev pub ReceivesOne : {W E : Type 0} → (W → ℕ → List (Option (List ℕ)) → W → Type 0) → List ℕ → Result Came E → GuardView W → GuardView W → Type 0
 ReceivesOne Below buffer (Err _) g h = Below g.wire (length buffer) [] h.wire × (h ≡ record g { wire = h.wire })
 ReceivesOne Below buffer (Ok Nothing) g h = Below g.wire (length buffer) none_there h.wire × (h ≡ record g { wire = h.wire })

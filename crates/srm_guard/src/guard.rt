@@ -26,8 +26,12 @@ enum Came {
     Dropped,
 }
 
-/// A wire around a wire. With a key it sends each datagram with its tag behind it, and drops what comes without its right tag. With a limit it drops a datagram that would make
-/// too many names missing. Everything else is as with the wire below.
+/// A wire around a wire. With a key it sends each datagram with its tag behind it, and drops what comes without its right tag. With a limit it drops a datagram that
+/// would make too many names missing.
+///
+/// A `receive` returns `None` after 64 dropped datagrams, though more may wait. With a key a datagram is 16 bytes longer on the wire below: a `receive` needs so
+/// many bytes more in its buffer, or the tag is cut off and the datagram dropped; and a `send` of more than 65,535 bytes fails, and is counted. Everything else is
+/// as with the wire below.
 #[derive(Drop)]
 pub struct Guard<X: Wire + Drop> {
     wire: X,

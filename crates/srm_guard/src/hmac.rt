@@ -14,7 +14,8 @@ const INNER: u8 = 0x36;
 
 const OUTER: u8 = 0x5c;
 
-/// Returns the HMAC-SHA256 of a message under a key of any length. A key of more than 64 bytes is replaced by its digest.
+/// Returns the HMAC-SHA256 (RFC 2104) of a message under a key of any length. A key of more than 64 bytes is replaced by its digest. It is public so that tests
+/// compare it with worked codes: a guard uses [`Key::tag`].
 pub fn hmac_sha256(key: &[u8], message: &[u8]) -> [u8; 32]
     ensures { result ≡ hmac_sha256 key.now message.now }
 {

@@ -10,7 +10,7 @@ use std::io::{ErrorKind, Read};
 use std::marker::Model;
 use thiserror::Error;
 
-/// Bytes of a tag.
+/// Bytes of a tag: 16, behind each datagram.
 pub const TAG_BYTES: usize = 16;
 
 /// Bytes of a key, at least and at most.

@@ -8,8 +8,8 @@ use std::sync::atomic::{AtomicU32, AtomicU64, Ordering};
 // What stands in a slot that is free.
 const FREE: u32 = 0;
 
-/// What a member knows, as far as its guard asks for it: how many names it misses, and the greatest number of each stream. The member's side writes it and the guard
-/// reads it, from any thread.
+/// What a member knows, as far as its guard asks for it: how many names it misses, and the greatest number of each stream. One thread at a time writes it, with the
+/// `show_` calls; any thread reads it.
 #[derive(Drop)]
 pub struct Known {
     missing: AtomicU64,
@@ -20,7 +20,7 @@ pub struct Known {
 }
 
 impl Known {
-    /// Makes what a member knows that heard nothing. Fails only if out of memory.
+    /// Makes the knowledge of a member that has heard nothing. Fails only if out of memory.
     pub fn new(alloc: Global) -> Result<Known, AllocError> {
         let slots = usize::from(PAGES);
         Ok(Known {
@@ -30,7 +30,7 @@ impl Known {
         })
     }
 
-    /// Says that so many names are missing now.
+    /// Stores how many names are missing now. The limit compares with it.
     pub fn show_missing(&self, count: usize) {
         self.missing.store(count as u64, Ordering::SeqCst);
     }

@@ -9,6 +9,10 @@
 //! request. A network may lose any datagram, so a guard may drop it, and what holds of a node over any wire holds over a guard.
 //!
 //! **Limits of a key.** It hides nothing, doesn't stop anyone from sending an old datagram again, and doesn't tell one member from another: a member that has the key may lie.
+//!
+//! [`Known`] is how a member tells the limit what it knows. [`Guard::dropped`] returns what was dropped, by cause ([`Dropped`]).
+//!
+//! **Errors.** [`Key::read`] returns a [`KeyFault`]. [`Guard::new`] and [`Known::new`] fail only if out of memory.
 #![tactic(auto)]
 
 mod dropped;

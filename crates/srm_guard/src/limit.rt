@@ -8,14 +8,15 @@ use srm_names::{Member, Name};
 use std::alloc::Global;
 use std::sync::Arc;
 
-/// A limit to what a member misses: the guard drops a datagram that would raise the count above it. One that makes nothing missing passes, however much is missing already.
+/// A limit to what a member misses: the guard drops a datagram that would raise the count above it. If out of memory while it decodes one, it lets that one pass.
+/// One that makes nothing missing passes, however much is missing already.
 ///
 /// A member that is further behind than this never catches up, since what tells it of the missing names is dropped.
 #[derive(Drop)]
 pub struct Limit {
-    /// The most names that may be missing.
+    /// The most names that may be missing, any number; with 0 nothing may become missing.
     pub most: u64,
-    /// The number of the session.
+    /// The number of the session: bytes of another session make nothing missing.
     pub session: u32,
     /// The member that the guard is for.
     pub me: Member,

@@ -12,17 +12,23 @@ use std::io;
 use std::net::{Net, SocketAddr};
 use std::sync::Arc;
 
-/// A member's wire with its guard, and what other threads and the member's past have of it.
+/// A member's wire with its guard, and the handles that other threads and the member's history get.
 #[derive(Drop)]
 pub struct Guarded {
+    /// The wire over UDP, with the guard around it.
     pub wire: Guard<UdpWire>,
-    /// What ends the wire's pauses. `None` if there was no memory for it: a pause then goes on to its end.
+    /// What ends the wire's pauses. `None` if out of memory for it: a pause then lasts to its end.
     pub waker: Option<Arc<WireWaker, Global>>,
     /// Where the member says what it knows, if its guard has a limit.
     pub known: Option<Arc<Known, Global>>,
 }
 
-/// Binds a socket to the address of the member that these settings are for, and puts the guard of these options around its wire. Fails as [`UdpWire::bind`] does, and with `OutOfMemory`.
+/// Binds a socket to the address that `addresses` has for the member of `config`, and puts a guard around its wire: with the limit and the roster that `guard` asks
+/// for, and with `key`. Pass what [`read_key`](crate::read_key) returned for these options: `guard.key` isn't read here, and with `None` the wire neither tags nor
+/// checks.
+///
+/// Fails with `InvalidInput` if the member has no address, with `OutOfMemory` if there are not some 5 MB, and with the system's error if it refuses to bind or to
+/// poll.
 pub fn bind_guarded(
     rt: &impl Net,
     alloc: Global,

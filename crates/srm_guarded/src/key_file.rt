@@ -30,8 +30,9 @@ impl From<AllocError> for KeyFileFault {
     }
 }
 
-/// Reads the key from the file that the options name: all of its bytes, 16 to 1,024. Returns `None` if they name none. Fails with the cause if the file can't be read, if it has another
-/// length, and if out of memory.
+/// Reads the key from the file that the options name: all of its bytes, 16 to 1,024. Returns `None` if they name none. Fails with [`KeyFileFault::Unreadable`] and
+/// the cause if the file can't be opened or read, [`KeyFileFault::Length`] if it has another length, and [`KeyFileFault::Memory`] if out of memory. It reads at most
+/// 1,025 bytes.
 pub fn read_key<R: Files>(
     rt: &R,
     alloc: Global,

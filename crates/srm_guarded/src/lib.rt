@@ -6,7 +6,8 @@
 //! let past = Published::new(alloc, past, known); // tells the guard's limit what the member knows
 //! ```
 //!
-//! **Failures.** A key file that can't be read or has a wrong length ([`KeyFileFault`]), an address that can't be bound, and want of memory.
+//! **Errors.** [`read_key`] returns a [`KeyFileFault`]: the file can't be read or has a wrong length, or memory ran out. [`bind_guarded`] fails if the address can't
+//! be bound, and if out of memory.
 #![tactic(auto)]
 
 mod binding;

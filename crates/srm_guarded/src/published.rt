@@ -1,4 +1,4 @@
-//! What a member's past tells its guard.
+//! What a member's history tells its guard.
 
 ghost use Rattle.std.specs.Prelude.{◌≡◌};
 
@@ -12,7 +12,8 @@ use srm_world::Past;
 use std::alloc::{AllocError, Global};
 use std::sync::Arc;
 
-/// A node's past as another past keeps it. If the guard has a limit, each entry first tells it what the member knows and how much it misses.
+/// A node's history, stored as another one stores it. If the guard has a limit, each entry that is appended first tells it what the member knows and how much it
+/// misses. If out of memory, a missing name isn't counted, so the guard lets more through.
 #[derive(Drop)]
 pub struct Published<P: Past<Entry> + Drop> {
     past: P,
@@ -20,7 +21,7 @@ pub struct Published<P: Past<Entry> + Drop> {
 }
 
 impl<P: Past<Entry> + Drop> Published<P> {
-    /// Publishes from now on what is appended to a past, if there is where. It allocates nothing.
+    /// Wraps a history. With `known`, each entry that is appended from now on is noted there; earlier ones aren't. Takes no memory.
     pub fn new(alloc: Global, past: P, known: Option<Arc<Known, Global>>) -> Published<P>
         ensures { result.past ≡ past }
     {
@@ -57,7 +58,7 @@ impl<P: Past<Entry> + Drop> Past<Entry> for Published<P> {
     }
 }
 
-// What the member misses, by its entries so far. A name for which there is no memory isn't counted, so the guard lets more through.
+// What the member misses, by its entries so far. If out of memory, a name isn't counted, so the guard lets more through.
 #[derive(Drop)]
 struct Notice {
     missing: IndexSet<Name>,

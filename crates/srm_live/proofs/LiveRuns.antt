@@ -47,7 +47,7 @@ pub some_is : {R : Type 0} (o : Option R) (r : R) (P : R → Type 0) → IfSome 
 some_is None r P p is = cc
 some_is (Some q) r P p is = subst P (same_Some q r is) p
 
--- a pen was put beside its well
+-- a producer was put beside its stroke queue
 pub received_of : (well after : WellView) (inked back : PenView) → after ≡ well → back ≡ inked → ((held : List Stroke) × SentIs back.number back.sent after.received held) → IsReceivedOf well.received inked
 received_of well after inked back same is (held, sent) =
     let here : IsPrefix (strokes_of back.number after.received) back.sent = (strokes_of back.number held, sym sent) in
@@ -56,7 +56,7 @@ received_of well after inked back same is (held, sent) =
 wells_same : {X C : Type 0} (node : NodeView X C) (taps : List TapView) (pens : List PenView) (well : WellView) → HasNewEnds node taps pens → SameWell node.well well → (k : ℕ) (p : PenView) → slice_get pens k ≡ Some p → p.well ≡ well.well
 wells_same node taps pens well ends same k p at = ap (λ (x : PenView). x.well) (ends.new_pens k p at) ∙ sym (ap (λ (w : WellView). w.well) same)
 
--- the pens are those of the well that the node hands back
+-- the producers are those of the stroke queue that the node returns
 pub live_pens : {X C : Type 0} (end : Result (Unit {0}) NodeFault) (node : NodeView X C) (taps : List TapView) (pens : List PenView) (well : WellView) (known : Option (List ℕ)) (first : PenView) (others : List PenView)
     → HasNewEnds node taps pens → IfOk end (λ _. SameWell node.well well) → HaveTyped known pens first others → IfOk end (λ _. (first.well ≡ well.well) × AllByRecursion (λ (p : PenView). p.well ≡ well.well) others)
 live_pens (Ok u) node taps pens well known first others ends same typed = (

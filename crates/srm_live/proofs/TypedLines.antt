@@ -126,7 +126,7 @@ pub draws_more : (bytes : List ℕ) (i byte : ℕ) (typed_before : List ℕ) (ol
 draws_more bytes i byte typed_before old begun mid left new few is one two =
     subst (λ done. DrawsTyped done typed_before old left new) (ap (λ b. take i bytes ++ b ∷ []) is ∙ sym (take_more bytes i 0 few)) (draws_on (take i bytes) (byte ∷ []) typed_before old begun mid left new one two)
 
--- some of these bytes, where the pen stays as it is then
+-- some of these bytes, where the producer stays as it is then
 pub draws_some : (bytes : List ℕ) (i : ℕ) (typed_before : List ℕ) (old : PenView) (begun : List ℕ) (mid new : PenView) → DrawsTyped (take i bytes) typed_before old begun mid → new ≡ mid → DrawsSome bytes typed_before old new
 draws_some bytes i typed_before old begun mid new h is = record {
   done = take i bytes;
@@ -212,7 +212,7 @@ reads_more (Some text) left after bytes begun old mid next new h took draws =
       sent = sent_more h.drawn draws.drawn old mid new h.sent draws.sent;
     }
 
--- reading ended, and the pen stays as it is
+-- reading ended, and the producer stays as it is
 pub reads_cut : (known left : Option (List ℕ)) (begun : List ℕ) (old mid new : PenView) → ReadsOf known left begun old mid → new ≡ mid → PenSentPrefixOf known old new
 reads_cut None left begun old mid new h is = tt
 reads_cut (Some text) left begun old mid new h is = (strokes_in (begun ++ h.rest), record { sent = h.drawn; split = h.strokes; is = is ∙ h.sent })

@@ -13,7 +13,7 @@ command_of name =
     else if bytes_eq name (codes "help") then Some Help
     else None
 
--- what stands behind a line's first slash: a stroke with a slash of its own, or a command's name
+-- what stands behind a line's first slash: a stroke that begins with a slash, or a command's name
 abbrev pub said_behind_slash : List ℕ → Typed
 said_behind_slash [] = Order (command_of [])
 said_behind_slash (c ∷ cs) = if c == 47 then Stroke (c ∷ cs) else Order (command_of (c ∷ cs))

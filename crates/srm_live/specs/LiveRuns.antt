@@ -12,14 +12,14 @@ use Rattle.srm_member.specs.Strokes.{stroke_of}
 use Rattle.srm_member.specs.WholeRuns.{IsWholeHost}
 use Rattle.srm_live.specs.Typing.{strokes_in, SamePen, PenSentPrefixOf}
 
--- Of these pens, which are done, the first sent a prefix of what is typed in an input, if that is known, and the others are as they were.
+-- Of these producers, which are done, the first sent a prefix of what is typed in an input, if that is known, and the others are as they were.
 pub record HaveTyped (known : Option (List ℕ)) (pens : List PenView) (first : PenView) (others : List PenView) : Type 0 where
   pub pen : PenView
   pub pens_are : pens ≡ pen ∷ others
   pub same : SamePen pen first
   pub sent : PenSentPrefixOf known pen first
 
--- Of an input that is known, the strokes received of the first pen are a prefix of what was typed, line by line in order. None were received of the others.
+-- Of an input that is known, the strokes received of the first producer are a prefix of what was typed, line by line in order. None were received of the others.
 pub record ReceivesTyped (known : Option (List ℕ)) (received : List Stroke) : Type 0 where
   pub typed : IfSome known (λ text. IsPrefix (strokes_of 0 received) (map (stroke_of 0) (strokes_in text)))
   pub others : (pen : ℕ) → 0 < pen → pen < PENS → strokes_of pen received ≡ []

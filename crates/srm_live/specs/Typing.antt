@@ -41,11 +41,11 @@ typed_of l = if nat_lt LONGEST_BODY (length l.kept) then TooLong l.number else s
 abbrev pub line_after : LineContent → LineContent
 line_after l = record { number = one_more l.number; kept = [] }
 
--- the pen sent these bodies more
+-- the producer sent these bodies more
 abbrev pub PenSent : List (List ℕ) → PenView → PenView → Type 0
 PenSent bodies old new = new ≡ record old { sent = old.sent ++ map (stroke_of old.number) bodies }
 
--- the pen is the same, but for what it sent
+-- the producer is the same, but for what it sent
 pub record SamePen (old new : PenView) : Type 0 where
   pub is : new ≡ record old { sent = new.sent }
 
@@ -89,10 +89,10 @@ pub record DrawsLast (typed_before : List ℕ) (old new : PenView) : Type 0 wher
 abbrev pub ReadsOf : (known left : Option (List ℕ)) → List ℕ → PenView → PenView → Type 0
 ReadsOf known left begun old new = IfSome known (λ text. Reads text left begun old new)
 
--- of a text that is known the pen sent each stroke, once and in order
+-- of a text that is known the producer sent each stroke, once and in order
 abbrev pub PenSentAllOf : Option (List ℕ) → PenView → PenView → Type 0
 PenSentAllOf known old new = IfSome known (λ text. PenSentAllBut (strokes_in text) [] old new)
 
--- of a text that is known the pen sent a prefix of the strokes, each once and in order
+-- of a text that is known the producer sent a prefix of the strokes, each once and in order
 abbrev pub PenSentPrefixOf : Option (List ℕ) → PenView → PenView → Type 0
 PenSentPrefixOf known old new = IfSome known (λ text. PenSentPrefix (strokes_in text) old new)

@@ -14,7 +14,7 @@ pub enum Command {
     Help,
 }
 
-/// The command of this name, which stands behind a slash. None where there is none.
+/// Returns the command of this name, without its slash; `None` if there is none. None where there is none.
 pub fn command_in(name: &[u8]) -> Option<Command>
     ensures { result ≡ command_of name.now }
 {

@@ -35,7 +35,7 @@ pub struct Desk<O, E> {
 }
 
 impl<O: Write, E: Write> Desk<O, E> {
-    /// The desk of a member with these settings that did nothing yet. Without memory for it nothing is counted.
+    /// Makes the desk of a member with these settings that did nothing yet. If out of memory for the counts, nothing is counted.
     pub fn new(alloc: Global, config: Config, out: O, err: E) -> Desk<O, E>
     where
         E: IsTerminal,
@@ -123,7 +123,7 @@ impl<O: Write, E: Write> Desk<O, E> {
         );
     }
 
-    /// Prints a fault, and answers its status.
+    /// Prints a fault, and returns its status.
     pub fn print_fault<R: Wait>(&self, rt: &R, fault: &LiveFault) -> u8
         ensures status { result ≡ status_of_live fault.now }
         ensures greatest { result ≤ WAS_BEFORE }
@@ -143,7 +143,7 @@ impl<O: Write, E: Write> Desk<O, E> {
         }
     }
 
-    /// The first that was noted: want of memory, an output that failed, an input that did.
+    /// Returns the first of these that was noted: out of memory, an output that failed, an input that failed.
     pub fn noted(&self) -> Option<ScriptFault> {
         if self.lacks_memory.load(Ordering::SeqCst) {
             Some(ScriptFault::Memory)
@@ -156,22 +156,22 @@ impl<O: Write, E: Write> Desk<O, E> {
         }
     }
 
-    /// The allocator for lines that are told.
+    /// Returns the allocator for lines that are told.
     pub fn alloc(&self) -> Global {
         self.alloc
     }
 
-    /// The member's settings.
+    /// Returns the member's settings.
     pub fn config(&self) -> Config {
         self.config
     }
 
-    /// How many other members the session has.
+    /// Returns how many other members the session has.
     pub fn others(&self) -> u8 {
         self.config.members().saturating_sub(1)
     }
 
-    /// What the member counts, if there was memory for it.
+    /// Returns what the member counts, if there was memory for it.
     pub fn tally(&self) -> Option<&Tally> {
         match &self.tally {
             Some(tally) => Some(tally),
@@ -179,7 +179,7 @@ impl<O: Write, E: Write> Desk<O, E> {
         }
     }
 
-    /// The same for another thread. None without memory for it.
+    /// Returns the same for another thread; `None` if out of memory.
     pub fn share_tally(&self) -> Option<Arc<Tally, Global>> {
         match &self.tally {
             Some(tally) => Arc::try_clone(tally).ok(),
@@ -187,12 +187,12 @@ impl<O: Write, E: Write> Desk<O, E> {
         }
     }
 
-    /// Whether standard error is a terminal, whose window's title shows what goes on.
+    /// Returns whether standard error is a terminal, whose window's title shows what goes on.
     pub fn has_terminal(&self) -> bool {
         self.has_terminal
     }
 
-    /// Whether nothing more is drawn: nothing more is printed, or the node has ended.
+    /// Returns whether nothing more is drawn: nothing more is printed, or the node has ended.
     pub fn is_over(&self) -> bool {
         self.is_closed() || self.ended.load(Ordering::SeqCst)
     }
@@ -207,7 +207,7 @@ impl<O: Write, E: Write> Desk<O, E> {
         self.ended.store(true, Ordering::SeqCst);
     }
 
-    /// The flag that says whether the node has ended.
+    /// Returns the flag that says whether the node has ended.
     pub fn ended(&self) -> &AtomicBool {
         &self.ended
     }

@@ -12,7 +12,7 @@ pub struct Dropped {
     pub untagged: u64,
     /// Those that would have made too much missing.
     pub excess: u64,
-    /// Those for which the wire's queue had no room.
+    /// Those that came while the wire's queue was full.
     pub overflowed: u64,
 }
 

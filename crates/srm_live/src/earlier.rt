@@ -25,7 +25,7 @@ impl Model for LastDrawn {
 }
 
 impl LastDrawn {
-    /// It drew nothing yet.
+    /// Makes the state of a member that drew nothing yet.
     pub fn new(alloc: Global) -> LastDrawn
         ensures { result ≡ [] }
     {
@@ -41,8 +41,8 @@ impl LastDrawn {
         Ok(())
     }
 
-    /// Whether a datagram tells that this member was in the session before: it is a session message with a row of the member's own stream above what it drew. A member that begins anew under
-    /// its number begins at 1 again, while the others know what it drew before.
+    /// Returns whether a datagram tells that this member was in the session before: it is a session message with a row of the member's own stream above what it
+    /// drew. A member that begins anew under its number begins at 1 again, while the others know what it drew before.
     pub fn is_exceeded(&self, me: Member, datagram: &Datagram) -> bool
         ensures { result ≡ tells_of_earlier me self.now datagram.now }
     {

@@ -26,7 +26,7 @@ pub struct ErrorStream<E> {
 }
 
 impl<E: Write> ErrorStream<E> {
-    /// A stream whose window has another's title.
+    /// Makes a stream whose window has another's title.
     pub fn new(stream: E) -> ErrorStream<E> {
         ErrorStream {
             stream,
@@ -58,7 +58,7 @@ impl<E: Write> ErrorStream<E> {
         self.write(line);
     }
 
-    /// Prints a fault on a line of its own, and answers its status.
+    /// Prints a fault as a line, and returns its status.
     pub fn print(&mut self, fault: &LiveFault) -> u8
         ensures status { result ≡ status_of_live fault.now }
         ensures greatest { result ≤ WAS_BEFORE }

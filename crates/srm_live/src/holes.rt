@@ -23,7 +23,7 @@ pub struct PageHoles {
 }
 
 impl Holes {
-    /// Nothing is missing. Only out of memory refuses it.
+    /// Makes counts of 0. Fails only if out of memory.
     pub fn new(alloc: Global) -> Result<Holes, AllocError> {
         let mut pages = Vec::new(alloc);
         for _ in 0..PAGES {
@@ -32,12 +32,12 @@ impl Holes {
         Ok(Holes { pages })
     }
 
-    /// The pages on which something was missing, each once.
+    /// Returns the pages on which something was missing, each once.
     pub fn pages(&self) -> &[PageHoles] {
         self.pages.as_slice()
     }
 
-    /// How many drawops of a member are missing, on all pages.
+    /// Returns how many drawops of a member are missing, on all pages.
     pub fn of_member(&self, member: Member) -> usize {
         let mut all: usize = 0;
         for page in self.pages.as_slice() {
@@ -46,7 +46,7 @@ impl Holes {
         all
     }
 
-    /// One drawop more is missing. It isn't counted where drawops of eight other pages were missing before: no member has more pages.
+    /// Notes that one drawop more is missing. It isn't counted where drawops of eight other pages were missing before: no member has more pages.
     pub fn note_missing(&self, name: Name) {
         let stream = name.stream();
         if let Some(slot) = self.slot_of(stream.page) {
@@ -56,7 +56,7 @@ impl Holes {
         }
     }
 
-    /// A drawop that was missing came.
+    /// Notes that a drawop that was missing came.
     pub fn note_came(&self, name: Name) {
         let stream = name.stream();
         if let Some(slot) = self.slot_of(stream.page) {
@@ -89,12 +89,12 @@ impl PageHoles {
         })
     }
 
-    /// The page, if one stands here.
+    /// Returns the page, if there is one here.
     pub fn page(&self) -> Option<Page> {
         page_of(self.code.load(Ordering::SeqCst))
     }
 
-    /// How many drawops of a member are missing on the page.
+    /// Returns how many drawops of a member are missing on the page.
     pub fn of_member(&self, member: Member) -> usize {
         match self.counts.get(member.index()) {
             Some(count) => count.load(Ordering::SeqCst),

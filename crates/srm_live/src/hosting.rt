@@ -32,7 +32,7 @@ use std::sync::{Arc, Wait};
 use std::thread::Threads;
 use std::time;
 
-/// Runs the node in this thread, and its page workers and the pen that draws what is typed in threads of their own, until all have ended.
+/// Runs the node in this thread, and its page workers and the producer that draws what is typed in one thread each, until all have ended.
 ///
 /// `turns` is how many turns the node has. Returns why the run wasn't whole; `None` if it was. Then each worker took all that the node's journal gave in its slot, and its sink
 /// saw each of these messages; and the journal's draws are the strokes that are typed in the reader's bytes, in order, or a prefix of them.
@@ -74,7 +74,7 @@ where
     }
 }
 
-// Why the run wasn't whole; if it was, both ends of each lane were put together, and the pens beside their well.
+// Why the run wasn't whole. If it was, both ends of each lane were put together, and the producers beside their stroke queue.
 fn settle<P: Past<Entry> + Drop>(
     hosted: Hosted<P, Vec<PageMsg>>,
     well: Well,
@@ -118,7 +118,7 @@ fn settle_typed<P: Past<Entry> + Drop>(
     }
 }
 
-// Puts both ends of each lane together, and the pens beside their well.
+// Puts both ends of each lane together, and the producers beside their stroke queue.
 fn put_together(feeds: Vec<Feed>, worked: Vec<Worked>, well: Well, typed: TypedPens)
     requires lanes { AreEndsOfLanes feeds.items (map (λ w. w.tap) worked.items) }
     requires pens { (typed.first.well ≡ well.well) × AllByRecursion (λ p. p.well ≡ well.well) typed.others.items }

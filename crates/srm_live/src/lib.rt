@@ -4,14 +4,15 @@
 //! let status = run_live(&rt, options, PolledInput::new(&rt, alloc, rt.stdin(), STDIN), rt.stdout(), rt.stderr());
 //! ```
 //!
-//! The member's node runs in the calling thread; its one pen, its eight page workers and the one that tells news in threads of their own. [`run_live`] draws each line as it
-//! comes, and prints each message as it is taken. It owns its streams, since its threads read and write them. Its input must say where nothing is there yet, as
+//! The member's node runs in the calling thread; its producer, its eight page workers and the teller of news run in one thread each. [`run_live`] draws each line as
+//! it comes, and prints each message as it is taken. It owns its streams, since its threads read and write them. Its input must say where nothing is there yet, as
 //! [`PolledInput`] does.
 //!
-//! **Errors**, in this order: a key file that can't be used, an address that can't be bound, and what ends a run. It reads last, and goes on behind a line that is too long. If several things
-//! befell a run, it tells one: out of memory, else what ended the node's run, else an output that failed, else an input that did.
-//! [`MemberFault`](srm_member::MemberFault) has the text and the status of each; an address that can't be bound is told with the cause: `srm: cannot bind 127.0.0.1:80: permission denied`. A
-//! member that was in the session before, under the same number, is told so once, goes on, and ends with the status [`WAS_BEFORE`].
+//! **Errors**, in this order: a key file that can't be used, an address that can't be bound, and what ends a run. A line that is too long is no error. If several
+//! things befell a run, it tells one: out of memory, else what ended the node's run, else an output that failed, else an input that did.
+//! [`MemberFault`](srm_member::MemberFault) has the text and the status of each; an address that can't be bound is told with the cause: `srm: cannot bind
+//! 127.0.0.1:80: permission denied`. A member that was in the session before, under the same number, is told so once, goes on, and ends with the status
+//! [`WAS_BEFORE`].
 #![tactic(auto)]
 
 mod command;

@@ -24,6 +24,7 @@ pub struct Staying {
     pub stay: u64,
     /// And then until for so many microseconds nobody needed what it holds.
     pub linger: u64,
+    /// What others need of it.
     pub need: Arc<Need, Global>,
 }
 

@@ -8,7 +8,7 @@ use srm_member::MemberFault;
 use std::io::Write;
 use thiserror::Error;
 
-/// The status of a member that was in its session before, under the same number: the greatest status.
+/// The status of a member that was in its session before, under the same number: 5, the greatest.
 pub const WAS_BEFORE: u8 = 5;
 
 /// Why a live member isn't run, or not to its end, or not as it should be. Its text is the line that goes to standard error.

@@ -35,11 +35,13 @@ use std::sync::{Arc, Wait};
 use std::thread::{JoinHandle, Threads};
 use std::{mem, time};
 
-/// Runs a member with these options: draws each line of the input as it comes, by one pen, and prints what its page workers take as they take it. After the end of input it stays for the
-/// options' time, lingers as long as others need what it holds, and leaves.
+/// Runs a member with these options: draws each line of the input as it comes, by one producer, and prints what its page workers take as they take it. After the end
+/// of input it stays for `stay` microseconds, lingers until nobody needed what it holds for `linger` microseconds, for 30 seconds at most and not if it is alone,
+/// and leaves.
 ///
-/// A line that is too long is told to `err` and not drawn. A line that begins with a slash is a command, `/who`, `/leave` or `/help`; another word is told to be none. With two slashes a line is a
-/// stroke that begins with one. The options' `live` isn't used. An input may return `WouldBlock` where nothing is there yet, and is asked again; while a read waits, the member can't end.
+/// A line that is too long is told to `err` and not drawn. A line that begins with a slash is a command: `/who`, `/leave` or `/help`; `err` gets a line for any
+/// other. A line that begins with two slashes is a stroke with one slash less. The options' `live` and `verbose` aren't used: the cause of a failed bind is always
+/// told. An input may return `WouldBlock` where nothing is there yet, and is asked again; while a read waits, the member can't end.
 ///
 /// `err` gets who of the others is here, falls silent for ten seconds or leaves; once that the member was in the session before; why its address can't be bound; and at the end who wasn't heard
 /// leaving, which streams miss drawops, what the network refused and what was dropped. If `err` is a terminal, the title of its window says each second what goes on.
@@ -47,8 +49,9 @@ use std::{mem, time};
 /// A failing output or input and running out of memory end the reading; the member stays and leaves all the same, since others may need what it holds. Then `err` gets one fault: out of memory, else
 /// what ended the node's run, else the output, else the input.
 ///
-/// Returns the program's status: that of [`run_node`](srm_member::run_node), except that a line which is too long is no fault, and that a whole run of a member that was in the session
-/// before has the status [`WAS_BEFORE`](crate::WAS_BEFORE). All threads that it started have ended then.
+/// Returns the program's status: 0; 1 if the key file can't be used or a stream fails; 3 if the socket or the clock fails; 4 if memory ran out, a worker's too, or
+/// all turns were spent; [`WAS_BEFORE`](crate::WAS_BEFORE), 5, if all went well but the member was in the session before. Neither a line that is too long nor a long
+/// input is a fault. All threads that it started have ended then.
 pub fn run_live<R, I, O, E>(rt: &R, options: NodeOptions, reader: I, out: O, err: E) -> u8
 where
     R: Net + Files + time::Clock + Threads + Wait + AllocGlobal + Copy + Send + Drop + 'static,
@@ -65,7 +68,7 @@ where
     }
 }
 
-// Runs the member at a desk, and answers its status.
+// Runs the member at a desk, and returns its status.
 fn run_at<R, I, O, E>(
     rt: &R,
     alloc: Global,
@@ -159,7 +162,7 @@ fn tell_last<R: Wait, O: Write, E: Write>(rt: &R, told: Told, desk: &Desk<O, E>)
     tally.was_before()
 }
 
-// Tells what was lost on its way out, if anything was. Where there is no memory for the line it is left out.
+// Tells what was lost on its way out, if anything was. If out of memory, the line is left out.
 fn tell_lost<R: Wait, O: Write, E: Write>(rt: &R, losses: Losses, desk: &Desk<O, E>) {
     if losses == Losses::none() {
         return;
@@ -169,7 +172,7 @@ fn tell_lost<R: Wait, O: Write, E: Write>(rt: &R, losses: Losses, desk: &Desk<O,
     }
 }
 
-// Tells what was received and dropped, if anything was. Without memory for the line it is left out.
+// Tells what was received and dropped, if anything was. If out of memory, the line is left out.
 fn tell_dropped<R: Wait, O: Write, E: Write>(rt: &R, dropped: Dropped, desk: &Desk<O, E>) {
     if dropped == Dropped::none() {
         return;
@@ -189,7 +192,7 @@ fn staying_of(alloc: Global, options: &NodeOptions) -> Result<Staying, AllocErro
     })
 }
 
-// A live member's station, which keeps no entry, so that it may run for days. It leaves as soon as its pens are done, which they are when it has stayed.
+// A live member's station, which keeps no entry, so that it may run for days. It leaves as soon as its producers are done: when it has stayed.
 fn bind<R, O, E>(
     rt: &R,
     alloc: Global,

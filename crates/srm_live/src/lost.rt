@@ -15,7 +15,7 @@ pub struct LostCounts {
 }
 
 impl LostCounts {
-    /// Nothing was lost yet.
+    /// Makes counts of 0.
     pub fn new() -> LostCounts {
         LostCounts {
             no_way: AtomicU64::new(0),
@@ -26,7 +26,7 @@ impl LostCounts {
         }
     }
 
-    /// So many were lost by now.
+    /// Stores how many were lost by now.
     pub fn show(&self, losses: Losses) {
         self.no_way.store(losses.no_way, Ordering::SeqCst);
         self.denied.store(losses.denied, Ordering::SeqCst);
@@ -35,7 +35,7 @@ impl LostCounts {
         self.port_closed.store(losses.port_closed, Ordering::SeqCst);
     }
 
-    /// How many were lost, as shown last.
+    /// Returns how many were lost, as shown last.
     pub fn losses(&self) -> Losses {
         Losses {
             no_way: self.no_way.load(Ordering::SeqCst),

@@ -11,7 +11,7 @@ pub struct Need {
 }
 
 impl Need {
-    /// Nothing was asked for, and nothing sent.
+    /// Makes the need of nothing: nothing was asked for, and nothing sent.
     pub fn new() -> Need {
         Need {
             asked: AtomicU64::new(0),
@@ -20,37 +20,37 @@ impl Need {
         }
     }
 
-    /// Another member asked for what the member holds.
+    /// Notes that another member asked for what the member holds.
     pub fn note_asked(&self) {
         self.asked.fetch_add(1, Ordering::SeqCst);
     }
 
-    /// So many repair timers run now.
+    /// Stores how many repair timers run now.
     pub fn show_repairs(&self, count: usize) {
         self.repairs.store(count, Ordering::SeqCst);
     }
 
-    /// The member drew a stroke, of which no session message told yet.
+    /// Notes that the member drew a stroke; no session message told of it yet.
     pub fn note_drawn(&self) {
         self.sessions.store(0, Ordering::SeqCst);
     }
 
-    /// A session message was sent.
+    /// Notes that a session message was sent.
     pub fn note_session(&self) {
         self.sessions.fetch_add(1, Ordering::SeqCst);
     }
 
-    /// How often others asked for what the member holds.
+    /// Returns how often others asked for what the member holds.
     pub fn asked(&self) -> u64 {
         self.asked.load(Ordering::SeqCst)
     }
 
-    /// Whether a repair timer runs.
+    /// Returns whether a repair timer runs.
     pub fn has_repairs(&self) -> bool {
         self.repairs.load(Ordering::SeqCst) > 0
     }
 
-    /// How many session messages were sent since the last stroke.
+    /// Returns how many session messages were sent since the last stroke.
     pub fn sessions(&self) -> u64 {
         self.sessions.load(Ordering::SeqCst)
     }

@@ -12,7 +12,7 @@ use srm_world::Past;
 use std::alloc::{AllocError, Global};
 use std::sync::Arc;
 
-/// The entries of a node as another past keeps them. What each says of the need of others is noted first, if that is asked for.
+/// A node's history, stored as another one stores it. If asked to, it first notes what each entry says of the need of others.
 #[derive(Drop)]
 pub struct Needed<P: Past<Entry> + Drop> {
     past: P,
@@ -20,7 +20,7 @@ pub struct Needed<P: Past<Entry> + Drop> {
 }
 
 impl<P: Past<Entry> + Drop> Needed<P> {
-    /// The entries of this past, noted from now on, if there is where.
+    /// Wraps a history. With `need`, each entry that is appended from now on is noted there.
     pub fn new(alloc: Global, past: P, need: Option<Arc<Need, Global>>) -> Needed<P>
         ensures { result.past ≡ past }
     {
@@ -57,8 +57,8 @@ impl<P: Past<Entry> + Drop> Past<Entry> for Needed<P> {
     }
 }
 
-// What the member misses and which repair timers run, by its entries so far. A name for which memory is refused is left out: then the member may stay longer than it
-// needs to, or leave before a repair.
+// What the member misses and which repair timers run, by its entries so far. If out of memory, a name is left out: then the member may stay longer than it needs to,
+// or leave before a repair.
 #[derive(Drop)]
 struct Notes {
     missing: IndexSet<Name>,

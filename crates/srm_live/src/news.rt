@@ -17,7 +17,7 @@ pub struct Told {
 }
 
 impl Told {
-    /// Nothing was told yet.
+    /// Returns that nothing was told yet.
     pub fn nothing() -> Told {
         Told {
             presence: Presence::none(),

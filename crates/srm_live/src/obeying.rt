@@ -18,7 +18,7 @@ srm: /help   these lines
 /// What is told of a command that there isn't.
 const UNKNOWN: &str = "srm: no such command: /help names them, and //x draws /x\n";
 
-/// Does what a command says, or tells that there is none of this name. Refused is only going on, where it says to leave.
+/// Does what a command says, or tells that there is none of this name. Fails only with [`ReadingEnd::Left`], if it says to leave.
 pub fn obey<R: Wait, O: Write, E: Write>(
     rt: &R,
     command: Option<Command>,

@@ -31,7 +31,8 @@ impl<I> Model for PolledInput<I> {
 }
 
 impl<I: Read> PolledInput<I> {
-    /// Makes the input over a reader of this descriptor. The reader may keep no bytes in a buffer, since a wait at the descriptor wouldn't see them.
+    /// Makes the input over a reader of this descriptor. The reader may keep no bytes in a buffer, since a wait at the descriptor wouldn't see them. It can't fail:
+    /// without a poll, also if out of memory, reads wait as long as they take.
     pub fn new(net: &impl Net, alloc: Global, reader: I, descriptor: RawFd) -> PolledInput<I>
         ensures { result ≡ reader }
     {

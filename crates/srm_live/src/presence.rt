@@ -18,13 +18,16 @@ pub enum Standing {
 /// The standing of each member: a bit for each in each of three sets.
 #[derive(Clone, Copy, Debug, PartialEq, Eq)]
 pub struct Presence {
+    /// Those that were heard.
     pub heard: u32,
+    /// Those that were silent for ten seconds.
     pub silent: u32,
+    /// Those that left.
     pub left: u32,
 }
 
 impl Presence {
-    /// Nobody was heard yet.
+    /// Returns that nobody was heard yet.
     pub fn none() -> Presence {
         Presence {
             heard: 0,
@@ -33,7 +36,7 @@ impl Presence {
         }
     }
 
-    /// What is known of a member.
+    /// Returns what is known of a member.
     pub fn standing(&self, member: Member) -> Standing {
         let bit = bit_of(member);
         if self.left & bit != 0 {
@@ -47,23 +50,23 @@ impl Presence {
         }
     }
 
-    /// Whether a datagram of a member came.
+    /// Returns whether a datagram of a member came.
     pub fn is_heard(&self, member: Member) -> bool {
         self.heard & bit_of(member) != 0
     }
 
-    /// A datagram of a member came.
+    /// Notes that a datagram of a member came.
     pub fn hear(&mut self, member: Member) {
         self.heard |= bit_of(member);
         self.silent &= !bit_of(member);
     }
 
-    /// A member said that it leaves.
+    /// Notes that a member said that it leaves.
     pub fn leave(&mut self, member: Member) {
         self.left |= bit_of(member);
     }
 
-    /// Nothing came of a member for long.
+    /// Notes that no datagram of a member came for long.
     pub fn fall_silent(&mut self, member: Member) {
         self.silent |= bit_of(member);
     }

@@ -13,7 +13,7 @@ use std::sync::atomic::{AtomicBool, AtomicU32, AtomicU64, AtomicUsize, Ordering}
 /// What passed a member's wire so far, and what its agent made of it. One thread counts, and any reads. Counts wrap at 2^64.
 #[derive(Drop)]
 pub struct Tally {
-    // A bit for each member that was heard, of which nothing came for long, and that left.
+    // A bit for each member in each set: heard, silent for ten seconds, left.
     heard: AtomicU32,
     silent: AtomicU32,
     left: AtomicU32,
@@ -31,7 +31,7 @@ pub struct Tally {
 }
 
 impl Tally {
-    /// Nothing passed yet. Only out of memory refuses it.
+    /// Makes counts of 0. Fails only if out of memory.
     pub fn new(alloc: Global) -> Result<Tally, AllocError> {
         Ok(Tally {
             heard: AtomicU32::new(0),
@@ -66,14 +66,14 @@ impl Tally {
         add_one(&self.came);
     }
 
-    /// So much is known of the others now.
+    /// Stores what is known of the others now.
     pub fn show_presence(&self, presence: Presence) {
         self.heard.store(presence.heard, Ordering::SeqCst);
         self.silent.store(presence.silent, Ordering::SeqCst);
         self.left.store(presence.left, Ordering::SeqCst);
     }
 
-    /// What is known of the others by now.
+    /// Returns what is known of the others by now.
     pub fn presence(&self) -> Presence {
         Presence {
             heard: self.heard.load(Ordering::SeqCst),
@@ -87,17 +87,17 @@ impl Tally {
         self.was_before.store(true, Ordering::SeqCst);
     }
 
-    /// Whether the member was in this session before, as far as it heard.
+    /// Returns whether the member was in this session before, as far as it heard.
     pub fn was_before(&self) -> bool {
         self.was_before.load(Ordering::SeqCst)
     }
 
-    /// So many drawops are missing now.
+    /// Stores how many drawops are missing now.
     pub fn show_missing(&self, count: usize) {
         self.missing.store(count, Ordering::SeqCst);
     }
 
-    /// Which drawops are missing now, by stream.
+    /// Returns which drawops are missing now, by stream.
     pub fn holes(&self) -> &Holes {
         &self.holes
     }
@@ -112,12 +112,12 @@ impl Tally {
         add_one(&self.noise);
     }
 
-    /// So many were lost on their way out by now.
+    /// Stores how many were lost on their way out by now.
     pub fn show_lost(&self, losses: Losses) {
         self.lost.show(losses);
     }
 
-    /// What was lost on its way out by now.
+    /// Returns what was lost on its way out by now.
     pub fn losses(&self) -> Losses {
         self.lost.losses()
     }
@@ -132,7 +132,7 @@ impl Tally {
         self.dropped.dropped()
     }
 
-    /// What goes on by now, in a session of so many others.
+    /// Returns what goes on by now, in a session of so many others.
     pub fn activity(&self, others: u8) -> Activity {
         Activity {
             others,
@@ -159,14 +159,17 @@ fn add_one(count: &AtomicU64) {
 pub struct Activity {
     /// How many other members the session has, and of how many a datagram came.
     pub others: u8,
+    /// Of how many of these a datagram came.
     pub heard: u32,
     /// The drawops that the member misses now.
     pub missing: usize,
     /// The datagrams that were sent, and those that came from others.
     pub sent: u64,
+    /// The datagrams that came from others.
     pub came: u64,
     /// The requests and the repairs among those that were sent.
     pub requests: u64,
+    /// The repairs among those that were sent.
     pub repairs: u64,
     /// The datagrams that the agent ignored.
     pub ignored: u64,

@@ -15,7 +15,8 @@ use std::time::{Clock, Duration};
 /// How often it looks for what changed, and shows what goes on, in seconds.
 const SECONDS: u64 = 1;
 
-/// Starts the thread that tells what changes, and on a terminal shows each second what goes on. It answers what it told. None where nothing is counted, or there is no thread for it.
+/// Starts the thread that tells what changes, and on a terminal shows each second what goes on. The thread returns what it told. Returns `None` if nothing is
+/// counted, or no thread can be started.
 pub fn start_telling<R, O, E>(rt: &R, desk: &Arc<Desk<O, E>, Global>) -> Option<JoinHandle<Told>>
 where
     R: Clock + Threads + Wait + Copy + Send + Drop + 'static,
@@ -63,7 +64,7 @@ fn tell_activity<R: Clock + Wait, O: Write, E: Write>(
     unreachable!()
 }
 
-// Shows what goes on. A title for which there is no memory is left out.
+// Shows what goes on. If out of memory, a title is left out.
 fn show<R: Wait, O: Write, E: Write>(rt: &R, tally: &Tally, desk: &Desk<O, E>) {
     if !desk.has_terminal() {
         return;

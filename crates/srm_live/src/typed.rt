@@ -40,7 +40,7 @@ impl Model for Line {
 }
 
 impl Line {
-    /// The first line, of which nothing is typed.
+    /// Makes the first line, with nothing typed.
     pub fn new(alloc: Global) -> Line
         ensures { result ≡ record { number = 1; kept = [] } }
     {

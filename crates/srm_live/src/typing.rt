@@ -24,7 +24,7 @@ const READ: usize = 1_024;
 /// How long to wait before a reader that has nothing yet is asked again, in microseconds.
 const WAIT: u64 = 1_000;
 
-/// Draws each line of a reader with one pen, or does what its command says, stays once the reader ended, and returns the pen, which is done.
+/// Draws each line of a reader with one producer, or does what its command says, stays once the reader ended, and returns the producer, which is done.
 ///
 /// It stops drawing as soon as the member is to leave, the output is closed, the input fails, memory runs out or the node has ended, and stays as long, but not past the node's end.
 pub fn draw_typed<R: Clock + Wait, I: Read + Drop, O: Write, E: Write>(

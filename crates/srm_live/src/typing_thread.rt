@@ -1,4 +1,4 @@
-//! The thread that draws what is typed, and the pens that nobody draws with.
+//! The thread that draws what is typed, and the producers that nobody uses.
 
 ghost use Rattle.std.specs.Prelude.{◌≡◌, ◌∷◌, None, IfSome};
 ghost use Rattle.srm_live.specs.LiveRuns.{HaveTyped};
@@ -16,7 +16,7 @@ use std::sync::{Arc, Wait};
 use std::thread::{Promise, PromisedHandle, Threads};
 use std::{thread, time};
 
-/// A promise: this pen sends a prefix of the strokes that are typed in what this reader has.
+/// A promise: this producer sends a prefix of the strokes that are typed in what this reader has.
 #[derive(Drop)]
 pub struct DrawsLines<I: Read>(Snapshot<Pen>, Snapshot<I>);
 
@@ -26,21 +26,23 @@ impl<I: Read> Promise<Inked> for DrawsLines<I> {
     ghost kept_by = { λ p inked. SamePen p.0.value inked × PenSentPrefixOf (I.remaining p.1.value) p.0.value inked };
 }
 
-/// The thread of the first pen, which draws what is typed, and the others, which are done.
+/// The thread of the first producer, which draws what is typed, and the others, which are done.
 #[derive(Drop)]
 pub struct Typing<I: Read> {
     first: PromisedHandle<Inked, DrawsLines<I>>,
     others: Vec<Inked>,
 }
 
-/// All pens, which are done: the one that drew what was typed, and the others.
+/// All producers, which are done: the one that drew what was typed, and the others.
 #[derive(Drop)]
 pub struct TypedPens {
+    /// The one that drew what was typed.
     pub first: Inked,
+    /// The others, which drew nothing.
     pub others: Vec<Inked>,
 }
 
-/// Starts the thread of the first pen, which draws what is typed; the others are done. Returns `None` if memory ran out or no thread can be started.
+/// Starts the thread of the first producer, which draws what is typed; the others are done. Returns `None` if memory ran out or no thread can be started.
 pub fn start_typing<R, I, O, E>(
     rt: &R,
     alloc: Global,
@@ -94,7 +96,7 @@ where
     spawned.ok()
 }
 
-// The first of these pens, and the others, which are done. `None` if out of memory.
+// The first of these producers, and the others, which are done. `None` if out of memory.
 fn split_pens(alloc: Global, pens: Vec<Pen>) -> Option<(Pen, Vec<Inked>)>
     ensures { IfSome result (λ split. pens.items ≡ split.0 ∷ split.1.items) }
 {
@@ -104,7 +106,7 @@ fn split_pens(alloc: Global, pens: Vec<Pen>) -> Option<(Pen, Vec<Inked>)>
     Some((first, others))
 }
 
-// These pens, which are done. `None` if out of memory.
+// These producers, which are done. `None` if out of memory.
 fn all_done(alloc: Global, pens: VecDeque<Pen>) -> Option<Vec<Inked>>
     ensures { IfSome result (λ inked. inked.items ≡ pens.items) }
 {
@@ -116,7 +118,7 @@ fn all_done(alloc: Global, pens: VecDeque<Pen>) -> Option<Vec<Inked>>
     Some(inked)
 }
 
-/// Waits for the thread, if there is one, and returns all pens.
+/// Waits for the thread, if there is one, and returns all producers.
 pub fn join_typing<R: Threads, I: Read>(rt: &R, typing: Option<Typing<I>>) -> Option<TypedPens>
     ensures typed { IfSome result (λ pens. IfSome typing (λ t. HaveTyped (I.remaining t.first.promise.1.value) (t.first.promise.0.value ∷ t.others.items) pens.first pens.others.items)) }
     ensures none { typing ≡ None → result ≡ None }

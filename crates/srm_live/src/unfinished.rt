@@ -11,7 +11,7 @@ use std::fmt;
 use std::io::Write;
 use std::sync::Wait;
 
-/// Tells which of the others weren't heard leaving, and of which streams drawops are missing. A line for which there is no memory is left out.
+/// Tells which of the others weren't heard leaving, and of which streams drawops are missing. If out of memory, a line is left out.
 pub fn tell_unfinished<R: Wait, O: Write, E: Write>(rt: &R, tally: &Tally, desk: &Desk<O, E>) {
     let staying = Staying {
         presence: tally.presence(),

@@ -25,7 +25,7 @@ pub struct Watched {
 }
 
 impl Watched {
-    /// No entry yet, told to this tally from now on. Without memory for it nothing is told.
+    /// Makes a history without entries, which tells this tally of each from now on. Without memory for it nothing is told.
     pub fn new(alloc: Global, config: Config, tally: Option<Arc<Tally, Global>>) -> Watched
         ensures { result.past ≡ [] }
     {
@@ -188,7 +188,7 @@ impl Watch {
         }
     }
 
-    // What an entry sets request timers for is missing. A name for which memory is refused isn't counted: a count is no ledger.
+    // What an entry sets request timers for is missing. If out of memory, a name isn't counted: a count is no ledger.
     fn miss(&mut self, entry: &Entry) {
         for arm in entry.effects.arms.as_slice() {
             if arm.kind == ArmKind::Ask {

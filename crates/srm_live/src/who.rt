@@ -8,7 +8,7 @@ use std::fmt;
 use std::io::Write;
 use std::sync::Wait;
 
-/// Tells of each other member whether it is here and how many of its drawops are missing, and then what goes on. A line for which there is no memory is left out.
+/// Tells of each other member whether it is here and how many of its drawops are missing, and then what goes on. If out of memory, a line is left out.
 pub fn tell_who<R: Wait, O: Write, E: Write>(rt: &R, desk: &Desk<O, E>) {
     let Some(tally) = desk.tally() else {
         return;

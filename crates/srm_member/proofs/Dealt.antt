@@ -10,11 +10,11 @@ use Rattle.srm_names.specs.declared.limits.TheConstants.{PENS}
 use Rattle.srm_names.proofs.Lists.{get_set_same, set_elsewhere}
 use Rattle.srm_member.specs.Lines.{each_fourth, dealt_of, AddsTo, IsLineEnd}
 
--- how many lines are dealt to others before the next of this pen's, where it is that pen's turn
+-- how many lines are dealt to others before the next of this producer's, where it is that producer's turn
 abbrev pub others_before : ℕ → ℕ → ℕ
 others_before turn pen = if nat_lt pen turn then pen + PENS - turn else pen - turn
 
--- Of these lines all but those that are left were dealt to the pens in turn, and the next is this pen's.
+-- Of these lines all but those that are left were dealt to the producers in turn, and the next is this producer's.
 pub record DealtSo (lines left : List (List ℕ)) (turn : ℕ) (dealt : List (List (List ℕ))) : Type 0 where
   pub pens : length dealt ≡ PENS
   pub turn_is : turn < PENS
@@ -40,7 +40,7 @@ dealt_none lines dealt is = rw is (record { pens = refl; turn_is = omega arith; 
     none (suc (suc (suc zero))) bodies at = ap (λ bs. bs ++ each_fourth 3 lines) (same_Some [] bodies at)
     none (suc (suc (suc (suc k)))) bodies at = cc
 
--- whose turn it is after this pen
+-- whose turn it is after this producer
 abbrev pub after : ℕ → ℕ
 after pen = if pen + 1 == PENS then 0 else pen + 1
 

@@ -81,7 +81,7 @@ wells v (q ∷ pens) [] (i ∷ inked) all h = absurd h
 wells v (q ∷ pens) (b ∷ dealt) [] all h = absurd h
 wells v (q ∷ pens) (b ∷ dealt) (i ∷ inked) all h = (ap (λ (x : PenView). x.well) h.0.1.is ∙ all zero q refl, wells v pens dealt inked (λ k p at. all (suc k) p at) h.1)
 
--- the pens of a new station are those of the well that its node hands back
+-- the producers of a new station are those of the stroke queue that its node returns
 pub pens_of_well : {X C : Type 0} (node : NodeView X C) (taps : List TapView) (pens inked : List PenView) (dealt : List (List (List ℕ))) (well : WellView) → HasNewEnds node taps pens → SameWell node.well well → PensDrew (zip pens dealt) inked → AllByRecursion (λ (p : PenView). p.well ≡ well.well) inked
 pens_of_well node taps pens inked dealt well ends same drew =
     wells well pens dealt inked (λ k p at. ap (λ (x : PenView). x.well) (ends.new_pens k p at) ∙ sym (ap (λ (w : WellView). w.well) same)) drew
@@ -142,7 +142,7 @@ whole_host {P} {L} calls kinds turns node taps pens sinks well h ends count (x, 
   takes = whole_at calls kinds turns node taps pens sinks well h ends (x, well_is) takes closed;
 }
 
--- and with it the well that the node had at its end
+-- and with it the stroke queue that the node had at its end
 pub whole_host_well : {P L S X C : Type 0} (calls : Calls X C) (kinds : Kinds L S) (turns : ℕ) (node : NodeView X C) (taps : List TapView) (pens : List PenView) (sinks : List S) (well : WellView) (h : Hosted P L)
     → HasNewEnds node taps pens → length sinks ≡ PAGES → HostsWith calls kinds node (zip taps sinks) turns well h → TakePrefixes h.feeds.items (map (λ (w : Worked L). w.tap) h.worked.items) → list_all (λ (w : Worked L). list_any is_close (kinds.entries w.list)) h.worked.items ≡ true
     → (host : IsWholeHost calls turns node (map (λ (w : Worked L). kinds.entries w.list) h.worked.items)) × (well ≡ host.last.well)
@@ -182,7 +182,7 @@ started : {X : Type 0} (all : Bool) (r : Option X) (x : X) → (all ≡ false �
 started true r x refused some = refl
 started false r x refused some = let none = refused refl in cc
 
--- where the node was hosted all pens were started, and each sent a prefix of its bodies
+-- where the node was hosted all producers were started, and each sent a prefix of its bodies
 pub pens_drew : {X : Type 0} (all : Bool) (r : Option X) (x : X) (before grown starts : List PenAndBodies) (inked : List PenView) → (all ≡ false → r ≡ None) → r ≡ Some x → before ≡ [] → OnTrue all (grown ≡ before ++ starts) → PensDrew grown inked → PensDrew starts inked
 pens_drew all r x before grown starts inked refused some none grew drew = subst (λ ss. PensDrew ss inked) (of all (started all r x refused some) grew ∙ ap (λ ss. ss ++ starts) none) drew
   where

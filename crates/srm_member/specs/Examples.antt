@@ -1,4 +1,4 @@
--- Texts and their lines, how a member ends, what it prints then, and the words of a number.
+-- Texts and their lines, how a member ends, what it prints then, and the random numbers of a seed.
 use Rattle.std.specs.Prelude.{◌≡◌, true, false, [], ◌∷◌, ◌++◌, map, codes, refl, Some, None, Ok, Err}
 use Rattle.std.specs.Fmt.{digits}
 use Rattle.std.specs.declared.io.ErrorKind.TheVariants as kind

@@ -19,17 +19,17 @@ abbrev pub bad_line : ℕ → List (List ℕ) → Option ℕ
 bad_line n [] = None
 bad_line n (l ∷ ls) = if nat_lt LONGEST_BODY (length l) then Some n else bad_line (n + 1) ls
 
--- Each fourth line, after so many others: as many as there are pens are dealt between two of one pen's.
+-- Each fourth line, after so many others: as many as there are producers are dealt between two of one producer's.
 abbrev pub each_fourth : ℕ → List (List ℕ) → List (List ℕ)
 each_fourth others [] = []
 each_fourth zero (l ∷ ls) = l ∷ each_fourth (PENS - 1) ls
 each_fourth (suc others) (l ∷ ls) = each_fourth others ls
 
--- the lines of each pen
+-- the lines of each producer
 abbrev pub dealt_of : List (List ℕ) → List (List (List ℕ))
 dealt_of lines = each_fourth 0 lines ∷ each_fourth 1 lines ∷ each_fourth 2 lines ∷ each_fourth 3 lines ∷ []
 
--- This list of a pen's bodies has one more, and those of the others are as they were.
+-- This list of a producer's bodies has one more, and those of the others are as they were.
 abbrev pub AddsTo : ℕ → List ℕ → List (List (List ℕ)) → List (List (List ℕ)) → Type 0
 AddsTo pen body old new = (bodies : List (List ℕ)) × (slice_get old pen ≡ Some bodies) × (new ≡ slice_set old pen (bodies ++ body ∷ []))
 

@@ -11,7 +11,7 @@ use Rattle.srm_node.specs.Hosting.{AreEndsOfLanes}
 abbrev pub AreNewTaps : List TapView → Type 0
 AreNewTaps taps = (slot : ℕ) (t : TapView) → slice_get taps slot ≡ Some t → (t.taken ≡ []) × (t.slot ≡ slot)
 
--- The ends of a node that did nothing yet: the tap of each of its lanes, which took nothing, and the pens of its well, which sent nothing.
+-- The ends of a node that did nothing yet: the tap of each of its lanes, which took nothing, and the producers of its stroke queue, which sent nothing.
 pub record HasNewEnds {X C : Type 0} (node : NodeView X C) (taps : List TapView) (pens : List PenView) : Type 0 where
   pub slots : length taps ≡ PAGES
   pub lanes : AreEndsOfLanes node.feeds taps

@@ -23,11 +23,11 @@ abbrev is_memory : WorkEnd → Bool
 is_memory end.Memory = true
 is_memory _ = false
 
--- the worker ended for want of memory
+-- the worker ended because it was out of memory
 abbrev pub lacks_memory : {L : Type 0} → Worked L → Bool
 lacks_memory w = is_memory w.end
 
--- Why a run was no whole one, by its end and whether a worker lacked memory: want of memory comes before all else.
+-- Why a run wasn't whole, by its end and whether a worker ran out of memory: out of memory comes first.
 abbrev pub fault_of : Result (Unit {0}) NodeFault → Bool → Option MemberFault
 fault_of _ true = Some (fault.Script OutOfMemory)
 fault_of (Ok _) false = None
@@ -35,24 +35,24 @@ fault_of (Err Memory) false = Some (fault.Script OutOfMemory)
 fault_of (Err Wire) false = Some fault.Wire
 fault_of (Err Turns) false = Some fault.Turns
 
--- Why a run was no whole one, by its fault, if it had one, and whether the list of each worker goes to its close: a list that doesn't was cut short, which only want of memory does.
+-- Why a run wasn't whole, by its fault, if it had one, and whether the list of each worker has its close: a list without it was cut short, since memory ran out.
 abbrev pub fault_of_lists : Option MemberFault → Bool → Option MemberFault
 fault_of_lists None false = Some (fault.Script OutOfMemory)
 fault_of_lists run _ = run
 
--- Why a live run was no whole one, by why the run wasn't and what befell its streams: want of memory comes before all else, and then the run.
+-- Why a live run wasn't whole, by why the node's run wasn't and what befell its streams: out of memory comes first, then the run.
 abbrev pub fault_of_live : Option MemberFault → Option ScriptFault → Option MemberFault
 fault_of_live run (Some OutOfMemory) = Some (fault.Script OutOfMemory)
 fault_of_live (Some f) _ = Some f
 fault_of_live None (Some f) = Some (fault.Script f)
 fault_of_live None None = None
 
--- Why an address can't be bound, by what the system says: it lacks memory, or it refuses this address for this cause.
+-- Why an address can't be bound, by what the system says: out of memory, or this cause.
 abbrev pub fault_of_bind : SocketAddr → ErrorKind → MemberFault
 fault_of_bind address kind.OutOfMemory = fault.Script OutOfMemory
 fault_of_bind address cause = fault.Binding address cause
 
--- Why a socket or a clock can't be had, by what the system says: it lacks memory, or it refuses for another cause.
+-- Why a socket or a clock can't be made, by what the system says: out of memory, or another cause.
 abbrev pub fault_of_binding : ErrorKind → MemberFault
 fault_of_binding kind.OutOfMemory = fault.Script OutOfMemory
 fault_of_binding _ = fault.Wire
@@ -62,7 +62,7 @@ abbrev pub fault_of_binding_at : Option SocketAddr → ErrorKind → MemberFault
 fault_of_binding_at (Some address) cause = fault_of_bind address cause
 fault_of_binding_at None cause = fault_of_binding cause
 
--- Why a key file can't be used: there is no memory for it, or another cause.
+-- Why a key file can't be used: out of memory, or another cause.
 abbrev pub fault_of_key : KeyFileFault → MemberFault
 fault_of_key key.Memory = fault.Script OutOfMemory
 fault_of_key cause = fault.Key cause
@@ -79,7 +79,7 @@ status_of_member (fault.Key cause) = FAILED
 abbrev pub IsStatus : ℕ → Type 0
 IsStatus status = IsStatusBy status_of_member status
 
--- What was asked for is shown, unless the output fails; a wrong line, a name that isn't found and want of memory have statuses of their own.
+-- What was asked for is shown, unless the output fails. A wrong line, a name that isn't found and out of memory each have a status.
 abbrev pub StatusOf : Reply → ℕ → Type 0
 StatusOf (reply.Help text) status = (status ≡ 0) ⊎ (status ≡ FAILED) ⊎ (status ≡ RAN_OUT)
 StatusOf (reply.Wrong text) status = status ≡ WRONG_USAGE

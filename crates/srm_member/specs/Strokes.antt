@@ -1,4 +1,4 @@
--- What a pen draws.
+-- What a producer draws.
 use Rattle.std.specs.Prelude.{◌≡◌, ℕ, List, [], ◌∷◌, ◌++◌, map}
 use Rattle.std.specs.List.{zip}
 use Rattle.srm_names.specs.Names.{first_page}
@@ -6,21 +6,21 @@ use Rattle.srm_pages.specs.declared.stroke.Stroke.{Stroke}
 use Rattle.srm_pages.specs.Ends.{PenView}
 use Rattle.srm_member.specs.declared.pens.PenThread.{PenThread}
 
--- the stroke with this body, of the pen at this place, on the first page
+-- the stroke with this body, of the producer at this place, on the first page
 abbrev pub stroke_of : ℕ → List ℕ → Stroke
 stroke_of pen body = record { pen = pen; page = first_page; body = body }
 
--- The pen sent all of these bodies but those that are left behind them, each once and in order.
+-- The producer sent all of these bodies but those that are left behind them, each once and in order.
 pub record PenSentAllBut (bodies left : List (List ℕ)) (old new : PenView) : Type 0 where
   pub sent : List (List ℕ)
   pub split : bodies ≡ sent ++ left
   pub is : new ≡ record old { sent = old.sent ++ map (stroke_of old.number) sent }
 
--- the pen sent a prefix of these bodies
+-- the producer sent a prefix of these bodies
 abbrev pub PenSentPrefix : List (List ℕ) → PenView → PenView → Type 0
 PenSentPrefix bodies old new = (left : List (List ℕ)) × PenSentAllBut bodies left old new
 
--- a pen, and the bodies that it is to draw
+-- a producer, and the bodies that it is to draw
 abbrev pub PenAndBodies : Type 0
 PenAndBodies = PenView × List (List ℕ)
 
@@ -28,11 +28,11 @@ PenAndBodies = PenView × List (List ℕ)
 abbrev pub pen_and_bodies : PenThread → PenAndBodies
 pen_and_bodies t = (t.handle.promise.0.value, t.handle.promise.1.value.items)
 
--- the k-th pen is to draw the k-th list of bodies
+-- the k-th producer is to draw the k-th list of bodies
 abbrev pub pens_with : List PenView → List (List (List ℕ)) → List PenAndBodies
 pens_with pens dealt = zip pens dealt
 
--- each of the pens sent a prefix of its own bodies
+-- each producer sent a prefix of its bodies
 abbrev pub PensDrew : List PenAndBodies → List PenView → Type 0
 PensDrew [] [] = Unit {0}
 PensDrew (s ∷ ss) (p ∷ ps) = PenSentPrefix s.1 s.0 p × PensDrew ss ps

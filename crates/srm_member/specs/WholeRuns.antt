@@ -1,4 +1,4 @@
--- What a whole run of a member comes to: what its workers took, back to what the journal gave, and what was drawn, back to what was dealt to its pens.
+-- What a whole run of a member comes to: what its workers took, back to what the journal gave, and what was drawn, back to what was dealt to its producers.
 use Rattle.std.specs.Prelude.{◌≡◌, ℕ, ◌<◌, Bool, List, map, length, slice_get, Some}
 use Rattle.srm_names.specs.declared.limits.TheConstants.{PAGES, PENS}
 use Rattle.srm_names.specs.declared.page_msg.PageMsg.{PageMsg}
@@ -17,7 +17,7 @@ use Rattle.srm_member.specs.Strokes.{stroke_of}
 abbrev pub TakePrefixes : List FeedView → List TapView → Type 0
 TakePrefixes feeds taps = (slot : ℕ) (f : FeedView) (t : TapView) → slice_get feeds slot ≡ Some f → slice_get taps slot ≡ Some t → IsPrefix t.taken f.put
 
--- what was received of a pen is a prefix of what it sent
+-- what was received of a producer is a prefix of what it sent
 abbrev pub IsReceivedOf : List Stroke → PenView → Type 0
 IsReceivedOf received p = IsPrefix (strokes_of p.number received) p.sent
 
@@ -33,7 +33,8 @@ pub record IsWholeHost {X C : Type 0} (calls : Calls X C) (turns : ℕ) (node : 
 abbrev pub SawEach : {S : Type 0} → (S → ℕ → PageMsg → Bool → S → Type 0) → List S → List (List PageMsg) → Type 0
 SawEach {S} Sees sinks took = (slot : ℕ) (s : S) (ms : List PageMsg) → slice_get sinks slot ≡ Some s → slice_get took slot ≡ Some ms → (last : S) × (stopped : Bool) × SeesEach Sees slot stopped ms s last
 
--- And its journal's draws are the strokes received and no others, as `keeps` says: of each pen, they are a prefix of the strokes that were dealt to it, in order.
+-- And its journal's draws are the strokes received and no others, as `keeps` says: of each producer, they are a prefix of the strokes that were dealt to it, in
+-- order.
 pub record IsWholeRun {X C : Type 0} (calls : Calls X C) (turns : ℕ) (dealt : List (List (List ℕ))) (node : NodeView X C) (took : List (List PageMsg)) : Type 0 where
   pub host : IsWholeHost calls turns node took
   pub draws : (pen : ℕ) (bodies : List (List ℕ)) → pen < PENS → slice_get dealt pen ≡ Some bodies → IsPrefix (strokes_of pen host.last.well.received) (map (stroke_of pen) bodies)

@@ -1,4 +1,4 @@
--- What an output got of a text.
+-- What was written of a text to an output.
 use Rattle.std.specs.Prelude.{◌≡◌, ℕ, List, ◌++◌, Option}
 use Rattle.std.specs.Io.KnownBytes.{Appends}
 

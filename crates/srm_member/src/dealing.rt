@@ -1,4 +1,4 @@
-//! The lines of the input, dealt to the pens.
+//! The lines of the input, dealt to the producers.
 
 ghost use Rattle.std.specs.Prelude.{◌≡◌, ◌<◌, ◌∷◌, [], None, map, length, if◌then◌else◌, ◌+◌, ◌==◌, IfOk, IfErr, OnOk, MatchOption};
 ghost use Rattle.srm_names.specs.declared.limits.TheConstants.{PENS};
@@ -10,11 +10,11 @@ use srm_names::{LONGEST_BODY, PENS};
 use srm_script::ScriptFault;
 use std::alloc::{AllocError, Global};
 
-/// Deals the lines of an input to the pens in turn, the first to the first.
+/// Deals the lines of an input to the four producers in turn, the first to the first.
 ///
-/// A line ends with a line end, which the last may lack unless it is empty, and has at most 1,024 bytes without it. Returns for each of the four pens the bodies of its
-/// strokes, in order. The first line that is too long is refused as `BadLine` with its number, from 1, and out of memory as `Memory`. It goes through the input once,
-/// and copies each line.
+/// A line ends at a line feed, which the last line may lack. If nothing follows the last line feed, there is no line behind it. Returns four lists of bodies, in
+/// order: line n is in list (n - 1) modulo 4. Fails with [`ScriptFault::BadLine`] for the first line of more than 1,024 bytes, by its number from 1, and with
+/// [`ScriptFault::Memory`] if out of memory. Goes through the input once, and copies each line.
 pub fn deal(alloc: Global, input: &[u8]) -> Result<Vec<Vec<Bytes>>, ScriptFault>
     ensures ok { IfOk result (λ dealt. (bad_line 1 (lines_of input.now) ≡ None) × (map (λ bodies. bodies.items) dealt.items ≡ dealt_of (lines_of input.now))) }
     ensures err { IfErr result (IsRefusedFor (lines_of input.now)) }
@@ -35,7 +35,7 @@ pub fn deal(alloc: Global, input: &[u8]) -> Result<Vec<Vec<Bytes>>, ScriptFault>
     Ok(dealt)
 }
 
-// A list for each pen, with nothing in it.
+// An empty list for each producer.
 fn no_lists(alloc: Global) -> Result<Vec<Vec<Bytes>>, AllocError>
     ensures { IfOk result (λ dealt. map (λ bodies. bodies.items) dealt.items ≡ [] ∷ [] ∷ [] ∷ [] ∷ []) }
 {
@@ -47,7 +47,7 @@ fn no_lists(alloc: Global) -> Result<Vec<Vec<Bytes>>, AllocError>
     Ok(dealt)
 }
 
-// The pen whose turn it is after this one.
+// The producer whose turn it is after this one.
 fn next_pen(pen: usize) -> usize
     requires { pen < PENS }
     ensures { result ≡ (if pen + 1 == PENS then 0 else pen + 1) }
@@ -59,7 +59,7 @@ fn next_pen(pen: usize) -> usize
     }
 }
 
-// Adds a body to the list of a pen.
+// Adds a body to the list of a producer.
 fn add_to(
     alloc: Global,
     dealt: &mut Vec<Vec<Bytes>>,

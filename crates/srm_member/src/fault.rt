@@ -27,7 +27,7 @@ pub enum MemberFault {
     /// As of a script: a stream fails, the input is refused, or memory ran out.
     #[error("{0}")]
     Script(ScriptFault),
-    /// The address can't be bound, or a call of the socket failed.
+    /// The address can't be bound, the clock can't be read, or a call of the socket failed.
     #[error("srm: wire")]
     Wire,
     /// This address can't be bound, for this cause.
@@ -62,8 +62,8 @@ impl MemberFault {
 
     /// Returns why a run wasn't whole, by its end, its workers and their lists; `None` if it was.
     ///
-    /// It is the fault of [`of_run`](MemberFault::of_run), if there is one. Without one each list has its close, since nothing but want of memory ends a worker of such a run before: a list
-    /// that lacks it was cut short, and the fault is out of memory. Goes through the lists once, and takes no memory.
+    /// It is the fault of [`of_run`](MemberFault::of_run), if there is one. Without one each list has its close, since only a worker that is out of memory ends
+    /// before: a list without it was cut short, and the fault is out of memory. Goes through the lists once, and takes no memory.
     pub fn of_whole_run(end: Result<(), NodeFault>, worked: &[Worked]) -> Option<MemberFault>
         ensures { result ≡ fault_of_lists (fault_of end (list_any lacks_memory worked.now)) (list_all has_close worked.now) }
     {

@@ -1,4 +1,4 @@
-//! What the ends of lanes and of a well tell once they are put together again, when their threads have ended.
+//! What the ends of lanes and of the stroke queue tell once their threads have ended.
 
 ghost use Rattle.std.specs.Prelude.{◌≡◌, map};
 ghost use Rattle.std.specs.List.{AllByRecursion};
@@ -10,7 +10,8 @@ use srm_pages::ends::Well;
 use srm_pages::{Feed, Inked, settle};
 use std::collections::VecDeque;
 
-/// Puts pens that are done beside their stroke queue: what it received of each is a prefix of what the pen sent. Changes nothing, and neither waits nor takes memory.
+/// Compares producers that are done with their stroke queue: what it received of each is a prefix of what the producer sent. It is there for contracts: it changes
+/// nothing, and neither waits nor takes memory. Precondition: the producers are of this queue.
 pub fn join_pens(well: &mut Well, pens: Vec<Inked>)
     requires { AllByRecursion (λ p. p.well ≡ well.old.well) pens.items }
     ensures same { well.new ≡ well.old }
@@ -21,7 +22,8 @@ pub fn join_pens(well: &mut Well, pens: Vec<Inked>)
     }
 }
 
-/// Puts the two ends of each lane together, by slot: what was taken is a prefix of what was put. Of more feeds than workers, or the other way round, the others are dropped.
+/// Puts the two ends of each lane together, by page slot: what was taken is a prefix of what was put. It is there for contracts, and drops the ends. Precondition:
+/// the k-th feed and the k-th worker have the ends of one lane.
 pub fn settle_lanes(feeds: Vec<Feed>, workers: Vec<Worked>)
     requires { AreEndsOfLanes feeds.items (map (λ w. w.tap) workers.items) }
     ensures { TakePrefixes feeds.items (map (λ w. w.tap) workers.items) }

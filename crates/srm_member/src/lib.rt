@@ -7,9 +7,12 @@
 //! };
 //! ```
 //!
-//! The member's node runs in the calling thread, its four pens and eight page workers in threads of their own. [`run_node`] reads all of the
-//! input before it binds the socket, and prints once all threads have ended. [`deal`], [`send_stroke`] and [`Station`] are its parts, for a program that binds
-//! its sockets itself, or that draws strokes as they come.
+//! The member's node runs in the calling thread, its four producers and eight page workers in one thread each. [`run_node`] reads all of the input before it binds
+//! the socket, and prints once all threads have ended. [`deal`], [`send_stroke`] and [`Station`] are its parts, for a program that binds its sockets itself, or that
+//! draws strokes as they come.
+//!
+//! [`run_station`] runs a station and prints. [`Station::run_whole`] returns a [`Ran`], which [`settle_lanes`] and [`join_pens`] compare for contracts. [`host_if`]
+//! runs a node with the caller's sinks. [`wake`] ends a pause by a [`Waking`].
 //!
 //! **Errors**, in this order: a wrong command line; a key file that can't be used; an input that fails, is too long or has a line that is; an address that can't be
 //! bound; and what ends a run. [`MemberFault`] has the text and the status of each.

@@ -1,4 +1,4 @@
-//! The pens, each in a thread of its own.
+//! The producers, each in a thread.
 
 ghost use Rattle.std.specs.Prelude.{◌≡◌, ◌+◌, ◌<◌, ◌≤◌, [], ◌∷◌, ◌++◌, map, length, vec_len, vec_capacity, IfOk, IfSome};
 ghost use Rattle.std.specs.Bool.{OnTrue, OnFalse};
@@ -18,13 +18,13 @@ use std::thread::{Promise, PromisedHandle, Threads};
 use std::time::Duration;
 use std::{thread, time};
 
-/// How long a pen waits before it tries a full queue again, in microseconds: at first so long that a node which draws at full speed isn't kept waiting, then twice as long each
-/// time, up to the longest, so that a pen which the rate keeps back takes no processor.
+/// How long a producer waits before it tries a full queue again, in microseconds: at first so briefly that a node at full speed isn't kept waiting, then twice as
+/// long each time, so that a producer that the rate keeps back takes no processor.
 const FIRST_WAIT: u64 = 50;
 
 const LONGEST_WAIT: u64 = 6_400;
 
-/// A pen's promise: this pen sends a prefix of these bodies.
+/// A producer's promise: it sends a prefix of these bodies.
 #[derive(Drop)]
 pub struct Draws(Snapshot<Pen>, Snapshot<Vec<Bytes>>);
 
@@ -34,17 +34,17 @@ impl Promise<Inked> for Draws {
     ghost kept_by = { λ p inked. PenSentPrefix p.1.value.items p.0.value inked };
 }
 
-/// A pen in its thread.
+/// A producer in its thread.
 #[derive(Drop)]
 pub struct PenThread {
     handle: PromisedHandle<Inked, Draws>,
 }
 
-/// The threads of the pens, and the flag that tells them that the node has ended. Contracts see the pens, each with the bodies that it is to draw.
+/// The threads of the producers, and the flag that tells them that the node has ended. Contracts see the producers, each with the bodies that it is to draw.
 #[derive(Drop)]
 pub struct PenThreads {
     threads: VecDeque<PenThread>,
-    // Room for the pen of each thread, once it is done.
+    // Room for the producer of each thread, once it is done.
     inked: Vec<Inked>,
     ended: Arc<AtomicBool, Global>,
     waker: Waking,
@@ -65,7 +65,7 @@ impl Model for PenThreads {
 /// The handle that ends a pause of the node's wire; `None` if the wire has none.
 pub type Waking = Option<Arc<WireWaker, Global>>;
 
-/// Returns the handle for one more thread; `None` if there is none, or no memory for it. The node then wakes by itself, a few milliseconds later.
+/// Returns the handle for one more thread; `None` if there is none, or if out of memory: then a pause of the node lasts to its end, 10 ms at most.
 pub fn share_waker(waker: &Waking) -> Waking {
     match waker {
         Some(waker) => Arc::try_clone(waker).ok(),
@@ -86,7 +86,7 @@ impl PenThreads {
         })
     }
 
-    /// Starts a thread for each pen, which draws the bodies at its place, until one can't be started. Returns whether all were.
+    /// Starts a thread for each producer, which draws the bodies at its place, until one can't be started. Returns whether all were.
     pub fn start<R: time::Clock + Threads + Wait + Copy + Send + 'static>(
         &mut self,
         rt: &R,
@@ -111,7 +111,7 @@ impl PenThreads {
         true
     }
 
-    /// Starts the thread of a pen, once there is a place for the pen when it is done. Returns whether it did.
+    /// Starts the thread of a producer, once there is room for it when it is done. Returns whether it did.
     fn start_one<R: time::Clock + Threads + Wait + Copy + Send + 'static>(
         &mut self,
         rt: &R,
@@ -141,7 +141,7 @@ impl PenThreads {
         }
     }
 
-    /// Tells the threads that the node has ended, waits for them, and returns the pens, in their order.
+    /// Tells the threads that the node has ended, waits for them, and returns the producers, in their order.
     pub fn end<R: Threads>(self, rt: &R) -> Vec<Inked>
         ensures { PensDrew self result.items }
     {
@@ -156,7 +156,7 @@ impl PenThreads {
     }
 }
 
-/// Starts the thread of a pen. `None` if none can be started.
+/// Starts the thread of a producer. Returns `None` if none can be started.
 fn spawn_pen<R: time::Clock + Threads + Wait + Copy + Send + 'static>(
     rt: &R,
     pen: Pen,
@@ -177,7 +177,7 @@ fn spawn_pen<R: time::Clock + Threads + Wait + Copy + Send + 'static>(
     }
 }
 
-/// Waits for the threads, and puts their pens into this list, which has room for them.
+/// Waits for the threads, and puts their producers into this list, which has room for them.
 fn join_all<R: Threads>(rt: &R, threads: VecDeque<PenThread>, inked: Vec<Inked>) -> Vec<Inked>
     requires none { inked.items ≡ [] }
     requires room { vec_len inked + length threads.items ≤ vec_capacity inked }
@@ -211,7 +211,7 @@ fn put(inked: &mut Vec<Inked>, one: Inked)
     let _ = inked.push(one);
 }
 
-/// Draws these bodies on the first page, in order, until the node has ended. Returns the pen, which is done.
+/// Draws these bodies on the first page, in order, until the node has ended. Returns the producer, which is done.
 #[tactic(auto, using(crate::proofs::Strokes::drew_none, crate::proofs::Strokes::drew_more))]
 fn draw_all<R: time::Clock + Wait>(
     rt: &R,
@@ -229,15 +229,15 @@ fn draw_all<R: time::Clock + Wait>(
         }
     }
     let inked = pen.done();
-    // A node that is to leave once its pens are done needn't wait for it.
+    // A node that leaves once its producers are done needn't wait for it.
     wake(waker);
     inked
 }
 
 /// Sends a stroke with this body on page 0.0, and returns whether it was sent.
 ///
-/// While the queue is full it tries again, after 50 microseconds at first and 6,400 at most, until the flag says that the node has ended; then nothing was sent. It wakes a node
-/// that pauses. Waits as long as the node's rate keeps strokes back.
+/// While the queue is full it tries again, after 50 microseconds at first and 6,400 at most, until `ended` is set; then nothing was sent. So it waits as long as the
+/// rate keeps strokes back, and for ever if the node ended and nobody sets `ended`. It ends a pause of the node. The node drops a body of more than 1,024 bytes.
 pub fn send_stroke<R: time::Clock + Wait>(
     rt: &R,
     pen: &mut Pen,

@@ -134,7 +134,7 @@ fn write_bytes<O: Write>(out: &mut O, bytes: &[u8]) -> io::Result<()>
     Err(ErrorKind::Interrupted.into())
 }
 
-/// Writes some of the bytes, and answers how many: none where the call was interrupted.
+/// Writes some of the bytes, and returns how many: none if the call was interrupted.
 #[tactic(auto, using(crate::proofs::Gathered::kept_is_none))]
 fn write_some<O: Write>(out: &mut O, bytes: &[u8]) -> io::Result<usize>
     ensures bound { IfOk result (λ count. count ≤ length bytes.now) }

@@ -6,9 +6,10 @@ use srm_options::Reply;
 use srm_script::{ScriptFault, WIRE_FAILED, WRONG_USAGE};
 use std::io::Write;
 
-/// Prints what a command line gets in place of being done: the help or version that it asks for to `out`, what is wrong in it to `err`.
+/// Prints a reply: the help or version to `out`; what is wrong in a command line, which host isn't found, or that memory ran out to `err`.
 ///
-/// Returns the program's status: 0 where what was asked for is printed, 1 or 4 where `out` fails, 2 for a wrong command line, 4 for out of memory.
+/// Returns the program's status: 0 if the help or version was printed; 1 if `out` fails, or 4 if it is out of memory; 2 for a wrong command line; 3 if a host isn't
+/// found; 4 if memory ran out. An `err` that fails changes nothing.
 pub fn print_reply<O: Write, E: Write>(reply: &Reply, out: &mut O, err: &mut E) -> u8
     ensures { StatusOf reply.now result }
 {

@@ -33,8 +33,9 @@ use std::time;
 
 /// Runs a member with these options, draws the lines of the input, and prints what its page workers took.
 ///
-/// Returns the program's status: 0; 1 if the key can't be used, the input is refused or a stream fails; 3 if the socket fails; 4 if memory ran out, a worker's too, or all turns were spent. The fault goes to `err`;
-/// nothing else is printed then, unless the output failed. The node keeps no journal, since nobody reads one.
+/// Returns the program's status: 0; 1 if the key file can't be used, the input has more than 1,000,000 bytes or a line of more than 1,024, or a stream fails; 3 if
+/// the socket or the clock fails; 4 if memory ran out, a worker's too, or all turns were spent. The options' `live` and `linger` aren't used. The fault goes to
+/// `err`; nothing else is printed then, unless the output failed. The node keeps no journal, since nobody reads one.
 pub fn run_node<R, I: Read, O: Write, E: Write>(
     rt: &R,
     options: NodeOptions,
@@ -73,11 +74,12 @@ where
     run_station(rt, alloc, station, dealt, turns, out)
 }
 
-/// Runs a new station to its end, its k-th pen drawing the k-th list of bodies, and prints what its page workers took.
+/// Runs a new station to its end, and prints what its page workers took. Its k-th producer draws the k-th list of bodies.
 ///
-/// `turns` is how many turns the node has. Returns what [`Station::run`] refuses, what ended the run ([`MemberFault::of_whole_run`]), or `Output` where the output
-/// can't be written, behind a prefix of the text. Nothing is printed unless the run was whole: then what is printed as taken in a slot is all that the node's journal gave there,
-/// to its close, and of each pen the strokes that the journal drew are a prefix of its bodies, in order.
+/// `turns` is the most turns of the node. Fails as [`Station::run`] does, with what ended the run ([`MemberFault::of_whole_run`]), with
+/// [`ScriptFault::Memory`](srm_script::ScriptFault) before it prints, or with [`ScriptFault::Output`](srm_script::ScriptFault) after a prefix of the text. Nothing
+/// is printed unless the run was whole: then what is printed as taken in a page slot is all that the node's journal gave there, to its close. The strokes that the
+/// journal drew of a producer are a prefix of its bodies, in order.
 pub fn run_station<R, X, P, O>(
     rt: &R,
     alloc: Global,

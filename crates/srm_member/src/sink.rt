@@ -1,4 +1,4 @@
-//! What the page workers of a member hand their messages to.
+//! What the page workers of a member show their messages to.
 
 ghost use Rattle.std.specs.Prelude.{◌≡◌, vec_len, IfOk};
 ghost use Rattle.srm_names.specs.declared.limits.TheConstants.{PAGES};
@@ -21,7 +21,7 @@ impl PageSink for Unseen {
     }
 }
 
-/// One for each slot. Fails only if out of memory.
+/// Makes a sink for each page slot. Fails only if out of memory.
 pub fn sinks(alloc: Global) -> Result<Vec<Unseen>, AllocError>
     ensures { IfOk result (λ sinks. vec_len sinks ≡ PAGES) }
 {

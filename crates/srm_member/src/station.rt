@@ -1,4 +1,4 @@
-//! A member's station: its node, the taps for its page workers, and its pens.
+//! A member's station: its node, the taps for its page workers, and its producers.
 
 ghost use Rattle.std.specs.Prelude.{◌≡◌, Bool, List, false, None, [], length, vec_len, map, IfOk, IfSome, MatchResult};
 ghost use Rattle.srm_names.specs.declared.limits.TheConstants.{PAGES, PENS};
@@ -39,25 +39,31 @@ use std::sync::Wait;
 use std::thread::Threads;
 use std::{io, time};
 
-/// A member's station: its node over a wire, UDP unless another is named, and the system's clock, the taps of its page workers, and its pens. The node keeps
-/// its entries unless another history is named.
+/// A member's station: its node over a wire and the system's clock, the taps of its page workers, and its producers. The wire is UDP, and the node keeps its
+/// entries, unless the types name others.
 #[derive(Drop)]
 pub struct Station<
     R: time::Clock + Drop,
     X: Wire + Drop = UdpWire,
     P: Past<Entry> + Drop = Vec<Entry>,
 > {
+    /// The node.
     pub node: Node<Pcg, X, SystemClock<R>, P>,
+    /// The taps of its page workers, by page slot.
     pub taps: Vec<Tap>,
+    /// Its four producers, by number.
     pub pens: Vec<Pen>,
     /// The handle that ends a pause of the node's wire, for whoever puts a stroke into its queue; `None` if the wire has none.
     pub waker: Waking,
 }
 
 impl<R: time::Clock + Copy + Drop> Station<R, Guard<UdpWire>, Published<Forgotten<Entry>>> {
-    /// Binds a member to its own address, with the guard that its options ask for. Its node keeps no entry, and leaves as its options say.
+    /// Binds a member to its own address, with the guard that its options ask for, and `key` as [`read_key`](srm_guarded::read_key) returns it for them: without it
+    /// nothing is tagged or checked, even if the options name a key file. The node keeps no entry, and leaves `stay` microseconds after its start. `linger`, `live`
+    /// and `turns` aren't used.
     ///
-    /// Fails with `Wire` if the address can't be bound, with `Binding` and the cause if the options ask for it (`verbose`), and if out of memory.
+    /// Fails with [`MemberFault::Wire`] if the address can't be bound, or with [`MemberFault::Binding`] and the cause if `verbose` is set; with `Wire` if the clock
+    /// can't be read; and if out of memory.
     pub fn bind(
         rt: &R,
         alloc: Global,
@@ -105,10 +111,11 @@ fn binding_fault(told: Option<SocketAddr>, error: io::Error) -> MemberFault
 }
 
 impl<R: time::Clock + Copy + Drop, X: Wire + Drop> Station<R, X> {
-    /// Makes the station of a member over a wire of the caller's, no call of which failed: one of the member that the options name, in their roster. The options' addresses and
-    /// turns aren't used.
+    /// Makes a member's station over a wire of the caller's, which sends as this member to this roster. No call of the wire has failed. Of the options it uses
+    /// `config`, `seed` and `stay`: the guard is not applied, since that is the wire's. No handle ends the wire's pauses.
     ///
-    /// Fails with `Wire` if the clock can't be read, and if out of memory.
+    /// Fails with [`MemberFault::Wire`] if the clock can't be read, and with [`ScriptFault::Memory`](srm_script::ScriptFault) in [`MemberFault::Script`] if out of
+    /// memory.
     pub fn over(
         rt: &R,
         alloc: Global,
@@ -125,11 +132,13 @@ impl<R: time::Clock + Copy + Drop, X: Wire + Drop> Station<R, X> {
 }
 
 impl<R: time::Clock + Copy + Drop, X: Wire + Drop, P: Past<Entry> + Drop> Station<R, X, P> {
-    /// Runs the node in this thread, and its page workers and its pens in threads of their own, until all have ended. The k-th pen draws the k-th list of bodies; more lists than
-    /// pens are left out.
+    /// Runs the node in this thread, and its page workers and producers in one thread each, until all have ended. The k-th producer draws the k-th list of bodies; a
+    /// fifth list isn't drawn.
     ///
-    /// `turns` is how many turns the node has. Returns what became of the node and its workers, also after a fault of the run. Fails with out of memory, before anything was drawn: so it does for fewer lists than
-    /// pens, and if a pen's thread can't be started. The type that the caller names for the workers' lists says how they are kept, as with [`host`](srm_node::host).
+    /// `turns` is the most turns of the node. Strokes are drawn on page 0.0; a body of more than 1,024 bytes is dropped by the node. Returns what became of the node
+    /// and its workers, also after a fault of the run. Fails only with [`ScriptFault::Memory`](srm_script::ScriptFault): if out of memory, if `dealt` has fewer
+    /// lists than there are producers, or if a producer's thread can't be started. The node drew nothing then, and is dropped. The type that the caller names for
+    /// the workers' lists says how they are kept, as with [`host`](srm_node::host).
     pub fn run<L: Past<PageMsg> + Send + Drop + 'static>(
         self,
         rt: &R,
@@ -148,7 +157,8 @@ impl<R: time::Clock + Copy + Drop, X: Wire + Drop, P: Past<Entry> + Drop> Statio
         Ok(ran.hosted)
     }
 
-    /// The same as [`run`](Station::run), and returns the node's stroke queue and the pens too, each of which sent a prefix of its bodies.
+    /// Does what [`run`](Station::run) does, and returns the node's stroke queue and the producers too. Each producer sent a prefix of its bodies. Fails as `run`
+    /// does.
     pub fn run_whole<L: Past<PageMsg> + Send + Drop + 'static>(
         self,
         rt: &R,
@@ -209,16 +219,20 @@ impl<R: time::Clock + Copy + Drop, X: Wire + Drop, P: Past<Entry> + Drop> Statio
     }
 }
 
-/// What became of a station's run: its node with its workers, the node's stroke queue, and its pens, which are done.
+/// What became of a station's run: its node with its workers, the node's stroke queue, and its producers, which are done.
 #[derive(Drop)]
 pub struct Ran<P: Past<Entry> + Drop = Vec<Entry>, L: Past<PageMsg> + Drop = Vec<PageMsg>> {
+    /// What became of the node and its workers.
     pub hosted: Hosted<P, L>,
+    /// The node's stroke queue.
     pub well: Well,
+    /// The producers, which are done, by number.
     pub pens: Vec<Inked>,
 }
 
 impl<R: time::Clock + Copy + Drop, X: Wire + Drop, P: Past<Entry> + Drop> Station<R, X, P> {
-    /// The same as [`over`](Station::over), with a history of the caller's, which has no entry yet, and with the handle that ends a pause of the wire.
+    /// Does what [`over`](Station::over) does, with a history of the caller's, which is empty, and with the handle that ends the wire's pauses. Fails as `over`
+    /// does.
     pub fn with_past(
         rt: &R,
         alloc: Global,
@@ -244,7 +258,7 @@ impl<R: time::Clock + Copy + Drop, X: Wire + Drop, P: Past<Entry> + Drop> Statio
         )
     }
 
-    // The station of a member with these settings and this past, which leaves after so long.
+    // Makes the station of a member with these settings and this history. It leaves `stay` microseconds after its start.
     fn make(
         rt: &R,
         alloc: Global,
@@ -279,7 +293,7 @@ impl<R: time::Clock + Copy + Drop, X: Wire + Drop, P: Past<Entry> + Drop> Statio
     }
 }
 
-/// The clock of a station's node, what its workers have of it and it of them, and the same of its pens.
+/// The clock of a station's node, and both ends of its lanes and of its stroke queue.
 #[derive(Drop)]
 struct Parts<R: time::Clock + Drop> {
     clock: SystemClock<R>,
@@ -313,7 +327,7 @@ fn make_parts<R: time::Clock + Copy + Drop>(rt: &R, alloc: Global) -> Result<Par
     })
 }
 
-/// What a run needs beside its station: a sink for each worker, and the threads of the pens.
+/// What a run needs beside its station: a sink for each worker, and the threads of the producers.
 #[derive(Drop)]
 struct Crew {
     sinks: Vec<Unseen>,
@@ -333,8 +347,8 @@ impl Crew {
     }
 }
 
-/// Runs the node with its workers if `started`, that is if each thread that draws for it was started, and returns its stroke queue too. Returns `None` if not, and if memory ran out before any worker was
-/// started.
+/// Runs the node as [`host_with_well`] does if `started`. Pass whether each thread that draws for it was started. Returns `None`, and drops the node, if not, or if
+/// memory ran out before any worker was started.
 pub fn host_if<R, X, P, S, L>(
     rt: &R,
     alloc: Global,

@@ -110,7 +110,7 @@ well_of_turns {X} {C} calls (suc n) a b (before, paused, runs, goes_on, waits, t
     well_on a.well before.well b.well (well_of_turns calls n a before runs)
     (well_on before.well paused.well b.well (well_kept before paused (ap (λ (n : NodeView X C). n.well) waits.same)) (well_of_turn calls paused b turned))
 
--- what is handed out of a node that ran, and of its workers
+-- what is returned of a node that ran, and of its workers
 pub hosted : {P L S X C : Type 0} (calls : Calls X C) (kinds : Kinds L S) (r : Result (Unit {0}) NodeFault) (node last : NodeView X C) (starts : List (TapView × S)) (turns : ℕ) (all : Bool) (well : WellView) (h : Hosted P L) (feeds : List FeedView) (keeps : Bool)
     → MatchResult r (λ _. (all ≡ true) × NodeKeepsLists last × RunsToEnd calls turns node last) (λ fault. StopsBy calls all fault turns node last) → NodeKeepsLists last
     → h.journal ≡ last.journal → feeds ≡ last.feeds → well ≡ last.well → OnTrue keeps (h.feeds.items ≡ feeds) → OnFalse keeps (h.feeds.items ≡ []) → keeps ≡ is_ok r → WorkedEach kinds starts h.worked.items
@@ -156,7 +156,7 @@ none_behind : {A : Type 0} (xs ys all : List A) → xs ++ ys ≡ all → xs ≡ 
 none_behind xs [] all split whole = refl
 none_behind xs (y ∷ ys) all split whole = absurd (omega (arith, ap length split, ap length whole, length-append xs (y ∷ ys)))
 
--- what is handed out of the taps and sinks handed in
+-- what is returned of the taps and sinks that were passed in
 pub host_ends : {P L S X C : Type 0} (calls : Calls X C) (kinds : Kinds L S) (r : Result (Unit {0}) NodeFault) (node : NodeView X C) (starts : List (TapView × S)) (workers : List (Worker L S)) (turns : ℕ) (all : Bool) (well : WellView) (h : Hosted P L) → StartsSome starts workers → OnTrue all (map start_of workers ≡ starts)
     → MatchResult r (λ _. (all ≡ true) × HostsWith calls kinds node (map start_of workers) turns well h) (λ fault. HostFailsWith calls kinds all node (map start_of workers) turns fault well h)
     → MatchResult r (λ _. HostsWith calls kinds node starts turns well h) (λ fault. (all : Bool) × HostFailsWith calls kinds all node starts turns fault well h)
@@ -213,7 +213,7 @@ pub host_well : {P L S X C : Type 0} (calls : Calls X C) (kinds : Kinds L S) (r 
 host_well calls kinds (Ok u) node starts turns well h (x, is) = subst (λ (w : WellView). SameWell node.well w) (sym is) (well_of_turns calls x.runs.count node x.last x.runs.runs.turns)
 host_well calls kinds (Err e) node starts turns well h x = tt
 
--- what is known of the node of a host, without its well
+-- what is known of the node of a host, without its stroke queue
 pub without_well : {P L S X C : Type 0} (calls : Calls X C) (kinds : Kinds L S) (r : Result (Unit {0}) NodeFault) (node : NodeView X C) (starts : List (TapView × S)) (turns : ℕ) (well : WellView) (h : Hosted P L)
     → MatchResult r (λ _. HostsWith calls kinds node starts turns well h) (λ fault. (all : Bool) × HostFailsWith calls kinds all node starts turns fault well h)
     → MatchResult r (λ _. Hosts calls kinds node starts turns h) (λ fault. (all : Bool) × HostFails calls kinds all node starts turns fault h)

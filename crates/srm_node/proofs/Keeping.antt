@@ -132,7 +132,7 @@ node_waited n failures told wire clock config room closed h = record { lists = h
 
 -- LOOKING AT THE PENS
 
--- what the well has received stays
+-- what the stroke queue has received stays
 pub node_looked : {X C : Type 0} (n : NodeView X C) (well : WellView) (config : Config) (room : ℕ) (closed : List Bool) → IsNode n config room closed → well.received ≡ n.well.received → IsNode (record n { well = well }) config room closed
 node_looked n well config room closed h same = record {
   lists = record { lawful = h.lists.lawful; slots = h.lists.slots; carries = h.lists.carries; puts = h.lists.puts; draws_are = subst (λ received. DrawsReceived n.journal received n.hand) (sym same) h.lists.draws_are };

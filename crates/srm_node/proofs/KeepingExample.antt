@@ -1,4 +1,4 @@
--- What a node keeps after a turn, and what a host hands back, at worked examples.
+-- What a node keeps after a turn, and what a host returns, at worked examples.
 use Rattle.std.proofs.Common.{◌≡◌, List, false, [], ◌∷◌, ◌++◌, refl, sym, subst, inr}
 use Rattle.std.specs.Prelude.{None, replicate}
 use Rattle.srm_names.specs.declared.page_msg.PageMsg.{PageMsg}
@@ -17,7 +17,7 @@ use Rattle.srm_node.proofs.Keeping.{keeps_new}
 use Rattle.srm_node.proofs.Releasing.{puts_released}
 use Rattle.srm_entries.specs.Sample.{config}
 
--- over a well of which nothing had been received
+-- over a stroke queue of which nothing had been received
 keeps : (lane : LaneId) (well : WellView) → well.received ≡ [] → NodeKeepsLists (after lane well)
 keeps lane well none = record {
   lawful = lawful;

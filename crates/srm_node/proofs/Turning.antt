@@ -42,7 +42,7 @@ ends_cut : {X C : Type 0} (calls : Calls X C) (r : Result (Unit {0}) NodeFault) 
 ends_cut calls (Ok _) a b is cut = absurd is
 ends_cut calls (Err fault) a b is cut = subst (λ f. TurnEnds calls (Err f) a b) (sym is) cut
 
--- The turn was cut in one of its parts. The fault is what the code made of want of memory.
+-- The turn was cut in one of its parts. The fault is what the code made of running out of memory.
 pub cut_hearing : {X C : Type 0} (calls : Calls X C) (now : ℕ) (a r b : NodeView X C) (x : Result (Unit {0}) NodeFault) → IsErrAnd x (λ fault. fault ≡ Memory) → ReadsNow calls.reads now a r → HearsCut calls.receives now r b → TurnEnds calls x a b
 cut_hearing calls now a r b x is c h = ends_cut calls x a b is (inl (record { now = now; read = r; reads = c; hears = h }))
 

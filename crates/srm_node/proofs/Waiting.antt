@@ -1,4 +1,4 @@
--- The words by which waits are chosen, over one call of the recorder and over several.
+-- The random numbers that choose waits, over one call of the recorder and over several.
 use Rattle.std.proofs.Common.{◌≡◌, ℕ, List, ◌++◌, refl, ap, ◌∙◌, subst, inl, inr, append_assoc}
 use Rattle.std.specs.Prelude.{Result}
 use Rattle.srm_entries.specs.declared.fault.AgentFault.{AgentFault}

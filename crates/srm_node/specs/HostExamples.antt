@@ -1,4 +1,4 @@
--- Workers that are started and joined, and what a host hands back, at worked examples.
+-- Workers that are started and joined, and what a host returns, at worked examples.
 use Rattle.std.specs.Prelude.{◌≡◌, ◌≢◌, ℕ, zero, suc, Bool, true, false, List, [], ◌∷◌, ◌++◌, None, refl, MatchBool}
 use Rattle.std.proofs.Common.{ap, sym, ◌∙◌, subst, inl}
 use Rattle.std.proofs.lemmas.Option.{same_Some}
@@ -48,7 +48,7 @@ started_first s t w is = record { tap = s; sink = 0; taps_are = refl; sinks_are 
 no_other_started : {L : Type 0} (s t : TapView) (w : Worker L ℕ) → Starts (s ∷ t ∷ []) (t ∷ []) (0 ∷ 7 ∷ []) (7 ∷ []) [] (w ∷ []) → start_of w ≡ (s, 0)
 no_other_started s t w h = let taps = h.taps_are in let sinks = h.sinks_are in let starts = h.started_are in cc
 
--- what a worker handed back whose tap took one message, which its sink saw, and found its lane at its end
+-- what a worker returned whose tap took one message, which its sink saw, and found its lane at its end
 pub worked_so : {L : Type 0} (entries : L → List PageMsg) (w : Worked L) (from to : TapView) (m : PageMsg) → w.tap ≡ to → entries w.list ≡ m ∷ [] → w.end ≡ Closed → to.closed ≡ true → Took from to (m ∷ []) → WorkedAs (counting entries) (from, 0) w
 worked_so entries w from to m is list end closed took = record {
   took = subst (λ t. Took from t (entries w.list)) (sym is) (subst (λ ms. Took from to ms) (sym list) took);
@@ -57,7 +57,7 @@ worked_so entries w from to m is list end closed took = record {
   end = subst (λ e. EndsSo w.tap.closed ⊥ e) (sym end) (ap (λ (t : TapView). t.closed) is ∙ closed);
 }
 
--- no worker hands back that its lane is broken
+-- no worker returns that its lane is broken
 never_broken : {L : Type 0} (entries : L → List PageMsg) (t : TapView) (w : Worked L) → w.end ≡ Broken → WorkedAs (counting entries) (t, 0) w → ⊥
 never_broken entries t w broken h = subst (λ e. EndsSo w.tap.closed ⊥ e) broken h.end
 
@@ -93,7 +93,7 @@ one_start lane = starts_of (tap 0 [] lane ∷ []) (0 ∷ [])
 ran_once : (lane : LaneId) (well : WellView) → StopsBy calls true Turns 1 (unpaused None lane well) (after lane well)
 ran_once lane well = inl (refl, record { runs = record { turns = (unpaused None lane well, before lane well, refl, refl, waits_once None lane well, whole lane well) }; goes_on = refl })
 
--- a host without fault hands back a list for each tap
+-- a host without fault returns a list for each tap
 one_for_each : {P L : Type 0} (entries : L → List PageMsg) (lane : LaneId) (well : WellView) (h : Hosted P L) → h.worked.items ≡ [] → Hosts calls (counting entries) (before lane well) (one_start lane) 5 h → ⊥
 one_for_each entries lane well h none x = let workers : WorkedEach (counting entries) (one_start lane) [] = subst (WorkedEach (counting entries) (one_start lane)) none x.workers in workers
 

@@ -31,7 +31,7 @@ pub record Starts {L S : Type 0} (taps left : List TapView) (sinks less : List S
   pub sinks_are : sinks ≡ sink ∷ less
   pub started_are : map start_of more ≡ map start_of workers ++ (tap, sink) ∷ []
 
--- What a worker hands back, as `WorkedFrom` says, given what its list has, what is known of a list that was refused room, and what its sink sees.
+-- What a worker returns, as `WorkedFrom` says, given what its list has, what is known of a list that was refused room, and what its sink sees.
 pub record Kinds (L S : Type 0) : Type 1 where
   pub entries : L → List PageMsg
   pub is_refused : L → Type 0
@@ -43,7 +43,7 @@ kinds_of entries is_refused sees = record { entries = entries; is_refused = is_r
 abbrev pub WorkedAs : {L S : Type 0} → Kinds L S → TapView × S → Worked L → Type 0
 WorkedAs kinds start w = WorkedFrom kinds.entries kinds.is_refused kinds.sees start.0 start.1 w
 
--- each worker handed back its own lane's tap, as its list what that tap took, which its own sink saw, and why it ended
+-- each worker returned the tap of its lane, as its list what that tap took and its sink saw, and why it ended
 abbrev pub WorkedEach : {L S : Type 0} → Kinds L S → List (TapView × S) → List (Worked L) → Type 0
 WorkedEach kinds [] [] = Unit {0}
 WorkedEach kinds (s ∷ ss) (w ∷ ws) = WorkedAs kinds s w × WorkedEach kinds ss ws
@@ -64,8 +64,8 @@ pub record StartsSome {L S : Type 0} (starts : List (TapView × S)) (workers : L
 abbrev pub StopsBy : {X C : Type 0} → Calls X C → Bool → NodeFault → ℕ → NodeView X C → NodeView X C → Type 0
 StopsBy calls all fault turns old new = ((all ≡ true) × RunEnds calls (Err fault) turns old new) ⊎ ((all ≡ false) × (fault ≡ Memory) × (new ≡ old))
 
--- After a fault: the feeds were let go. The node's journal is handed back, and the tap and list of each worker that was started, by the order of the taps:
--- of all, or of fewer.
+-- After a fault: the feeds were dropped. The node's journal is returned, and the tap and list of each worker that was started, in the order of the taps: of all, or
+-- of fewer.
 pub record HostFails {P L S X C : Type 0} (calls : Calls X C) (kinds : Kinds L S) (all : Bool) (node : NodeView X C) (starts : List (TapView × S)) (turns : ℕ) (fault : NodeFault) (h : Hosted P L) : Type 0 where
   pub last : NodeView X C
   pub runs : StopsBy calls all fault turns node last
@@ -82,7 +82,7 @@ pub record HostFails {P L S X C : Type 0} (calls : Calls X C) (kinds : Kinds L S
 abbrev pub AreEndsOfLanes : List FeedView → List TapView → Type 0
 AreEndsOfLanes feeds taps = (k : ℕ) (f : FeedView) (t : TapView) → slice_get feeds k ≡ Some f → slice_get taps k ≡ Some t → f.lane ≡ t.lane
 
--- Without fault: the node ran to its end, its journal and its feeds are handed back, of the same lanes, and each worker's tap and list.
+-- Without fault: the node ran to its end, its journal and its feeds are returned, of the same lanes, and each worker's tap and list.
 pub record Hosts {P L S X C : Type 0} (calls : Calls X C) (kinds : Kinds L S) (node : NodeView X C) (starts : List (TapView × S)) (turns : ℕ) (h : Hosted P L) : Type 0 where
   pub last : NodeView X C
   pub runs : RunsToEnd calls turns node last
@@ -93,13 +93,13 @@ pub record Hosts {P L S X C : Type 0} (calls : Calls X C) (kinds : Kinds L S) (n
   pub lanes : SameFeeds node.feeds last.feeds
   pub workers : WorkedEach kinds starts h.worked.items
 
--- Without fault, and this is the well that the node had at its end; and the same after a fault.
+-- Without fault, and this is the stroke queue that the node had at its end; and the same after a fault.
 abbrev pub HostsWith : {P L S X C : Type 0} → Calls X C → Kinds L S → NodeView X C → List (TapView × S) → ℕ → WellView → Hosted P L → Type 0
 HostsWith calls kinds node starts turns well h = (host : Hosts calls kinds node starts turns h) × (well ≡ host.last.well)
 
 abbrev pub HostFailsWith : {P L S X C : Type 0} → Calls X C → Kinds L S → Bool → NodeView X C → List (TapView × S) → ℕ → NodeFault → WellView → Hosted P L → Type 0
 HostFailsWith calls kinds all node starts turns fault well h = (host : HostFails calls kinds all node starts turns fault h) × (well ≡ host.last.well)
 
--- what a well received, how often it found none and what it was told of its pens may change, and no more
+-- what a stroke queue received, how often it found none and what it was told of its producers may change, and no more
 abbrev pub SameWell : WellView → WellView → Type 0
 SameWell w v = v ≡ record w { received = v.received; nones = v.nones; done_at = v.done_at }

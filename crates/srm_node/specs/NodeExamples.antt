@@ -159,7 +159,7 @@ took_nothing lane = record { more = []; took = record { is = refl }; grew = refl
 
 -- HOSTS
 
--- where a worker couldn't be started the node wasn't turned, and that is want of memory
+-- where a worker couldn't be started the node wasn't turned, and the fault is out of memory
 not_turned : (n : Node) → StopsBy calls false faults.Memory 5 n n
 not_turned n = inr (refl, refl, refl)
 
@@ -173,7 +173,7 @@ one_left_out kinds start = refl
 closed_at_the_end : EndsSo true ⊥ Closed
 closed_at_the_end = refl
 
--- want of memory isn't told as Closed, by which the list would be cut short and nobody would know
+-- out of memory isn't told as Closed: the list would be cut short, and nobody would know
 memory_is_not_closed : EndsSo false (Unit {0}) Closed → ⊥
 memory_is_not_closed h = cc
 

@@ -18,8 +18,8 @@ use Rattle.srm_node.specs.Carrying.{KeepsLists}
 abbrev pub moment_of : ℕ → ℕ
 moment_of told = min told LATEST_MOMENT
 
--- the journal, the feeds by slot, the well, the stroke in hand, the moment from which it is to leave if it was asked to, its end of a control if it has one, how
--- many calls of the wire failed, what the wire told if it tells, and the wire and the clock as they stand
+-- the journal, the feeds by slot, the stroke queue, the stroke in hand, the moment from which it is to leave if it was asked to, its end of a control if it has one,
+-- how many calls of the wire failed, what the wire told if it tells, and the wire and the clock as they stand
 pub record NodeView (X C : Type 0) : Type 0 where
   pub journal : Journal
   pub feeds : List FeedView
@@ -32,7 +32,7 @@ pub record NodeView (X C : Type 0) : Type 0 where
   pub wire : X
   pub clock : C
 
--- what contracts see of a node: this, and its words as they stand
+-- what contracts see of a node: this, and its generator as it stands
 pub record NodeState (W X C : Type 0) : Type 0 where
   pub view : NodeView X C
   pub words : W

@@ -37,8 +37,8 @@ use Rattle.srm_node.specs.TurnSample.{Node, at_each, eight, journal, calls, untu
 
 -- WHAT THE TURN WRITES
 
--- Nothing was drawn and nothing came, and the member asks to leave at moment 1. The tick sends its farewell; slot 0 is given its page and its close, and
--- the others their close, and then there is nothing more.
+-- Nothing was drawn or heard, and the member asks to leave at moment 1. The tick sends its farewell; page slot 0 is given its page and its close, and the others
+-- their close, and then there is nothing more.
 abbrev asks : Entry
 asks = plain 0 1 AskedLeave None [] None Leaving
 
@@ -170,11 +170,11 @@ asked_before lane well = unturned (Some 0) lane (record well { nones = 0 })
 abbrev heard : LaneId → WellView → Node
 heard lane well = heard_nothing (Some 0) lane (record well { nones = 0 })
 
--- the pens said that they are done
+-- the producers said that they are done
 abbrev seen : LaneId → WellView → Node
 seen lane well = looked (Some 0) lane (record well { nones = 0 })
 
--- and then the well was found to have no stroke
+-- and then the stroke queue was found to have no stroke
 abbrev drawn : LaneId → WellView → Node
 drawn lane well = record (seen lane well) { well = record well { nones = 1; done_at = Some 0 } }
 
@@ -211,7 +211,7 @@ draws_none lane well = record {
   same = refl;
 }
 
--- A look that came behind the last time that none was found says nothing of what a pen sent in between.
+-- A look that came behind the last time that none was found says nothing of what a producer sent in between.
 not_by_a_later_look : (well : WellView) → is_drained (record well { nones = 1; done_at = Some 1 }) ≡ false
 not_by_a_later_look well = refl
 

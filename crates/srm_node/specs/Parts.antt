@@ -107,13 +107,12 @@ pub record DrawsStrokes (now count : ℕ) (none_found : Bool) (old new : Journal
   pub pops : PopsStrokes (once none_found) from to (option_to_list hand) all
   pub draws : DrawsOf now count all (option_to_list kept) old new
 
--- As many were drawn as the turn might, by which it isn't known whether more are left; or fewer, and the well had none; or the one in hand isn't
--- admitted.
+-- As many were drawn as the turn might, by which it isn't known whether more are left; or fewer, and the stroke queue had none; or the one in hand isn't admitted.
 abbrev pub DrawingEnds : (now most count : ℕ) → Bool → Journal → Option Stroke → Type 0
 DrawingEnds now most count none_left j (Some s) = (none_left ≡ false) × IsAdmitted now j s false
 DrawingEnds now most count none_left j None = MatchBool none_left (count < most) (count ≡ most)
 
--- Strokes were drawn, at most so many, until there was cause to end. None is left exactly where the well was found to have none.
+-- Strokes were drawn, at most so many, until there was cause to end. None is left exactly where the stroke queue was found to have none.
 pub record DrewStrokes (now most : ℕ) (none_left : Bool) (old new : Journal) (from to : WellView) (hand kept : Option Stroke) : Type 0 where
   pub count : ℕ
   pub few : count ≤ most
@@ -129,7 +128,7 @@ pub record DrewStrokesCut (now most : ℕ) (old new : Journal) (from to : WellVi
 
 -- LEAVING
 
--- it leaves where no stroke is left, nothing more comes of its pens, and it is to by now
+-- it leaves where no stroke is left, nothing more comes of its producers, and it is to by now
 abbrev pub is_to_leave : (none_left drained : Bool) → Option ℕ → ℕ → Bool
 is_to_leave none_left drained asked now = none_left && (drained && has_come now asked)
 

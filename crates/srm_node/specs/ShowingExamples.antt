@@ -24,7 +24,7 @@ page number = record { creator = 0; number = number }
 next_page : page_of (config 0) [] Begin ≡ Some (page 1)
 next_page = refl
 
--- behind a page of its own that it shows, the next one
+-- behind a page that it began and shows, the next one
 page_behind : page_of (config 0) (entry 0 1 (Showed (page 4)) (quiet Active) ∷ []) Begin ≡ Some (page 5)
 page_behind = refl
 

@@ -47,7 +47,7 @@ short = record { pen = 0; page = first_page; body = 7 ∷ [] }
 first_admitted : IsAdmitted 5 (journal []) full true
 first_admitted = record { goings = ([], refl, tt, tt); is = refl }
 
--- a turn that takes both out of the well has drawn the first, and the second is in hand
+-- a turn that takes both out of the stroke queue has drawn the first, and the second is in hand
 abbrev after : WellView → WellView
 after w = record w { received = w.received ++ full ∷ short ∷ []; nones = w.nones + 0 }
 
@@ -92,11 +92,11 @@ leaves_with_its_entry h = without h.entries h.grown h.inputs
     without [] same h = cc
     without (e ∷ es) same h = let none : [] ≡ e ∷ es = ap (λ (j : Journal). j.entries) same in cc
 
--- at its moment, with its pens done and no stroke left; not a microsecond earlier, and not unless it was asked to
+-- at its moment, with its producers done and no stroke left; not a microsecond earlier, and not unless it was asked to
 to_leave : is_to_leave true true (Some 5) 5 ∷ is_to_leave true true (Some 5) 4 ∷ is_to_leave true false (Some 5) 5 ∷ is_to_leave false true (Some 5) 5 ∷ is_to_leave true true None 5 ∷ [] ≡ true ∷ false ∷ false ∷ false ∷ false ∷ []
 to_leave = refl
 
--- Behind a draw, which sets no timer, number 2 is heard and number 1 is missing: its wait is by the next word, and the other stays.
+-- Behind a draw, which sets no timer, number 2 is heard and number 1 is missing: its wait is by the next random number, and the other stays.
 abbrev one_missing : (wait : ℕ) → Entry
 one_missing wait = hears 0 7 (Data (drawop_of 1 2 (7 ∷ []))) (ask_arm 1 0 wait ∷ [])
 

@@ -1,4 +1,4 @@
--- What the examples of whole turns have in common: eight feeds, a turn in which nothing came, and gives by which each slot is served.
+-- What the examples of whole turns have in common: eight feeds, a turn that heard nothing, and gives that serve each page slot.
 use Rattle.std.specs.Prelude.{◌≡◌, ℕ, zero, suc, true, false, List, [], ◌∷◌, ◌++◌, Option, Some, None, slice_get, refl}
 use Rattle.std.specs.List.{AllByRecursion}
 use Rattle.std.proofs.Common.{arith, inr, sym, subst}
@@ -80,7 +80,7 @@ read_once asked lane well = record (unturned asked lane well) { clock = 2 }
 pub reads_once : (asked : Option ℕ) (lane : LaneId) (well : WellView) → ReadsNow calls.reads 1 (unturned asked lane well) (read_once asked lane well)
 reads_once asked lane well = record { told = 1; reads = (refl, refl); counts = refl; same = refl }
 
--- nothing came, which one receive told
+-- one receive told that no datagram is there
 abbrev pub heard_nothing : Option ℕ → LaneId → WellView → Node
 heard_nothing asked lane well = record (read_once asked lane well) { told = Some (record { came = None ∷ []; went = [] }); wire = 2 }
 
@@ -95,7 +95,7 @@ hears_nothing asked lane well = record {
   same = refl;
 }
 
--- the pens said that they are done
+-- the producers said that they are done
 abbrev pub looked : Option ℕ → LaneId → WellView → Node
 looked asked lane well = record (heard_nothing asked lane well) { well = record well { done_at = Some well.nones } }
 

@@ -25,7 +25,7 @@ pub record HearsNow {X C : Type 0} (Receives : X → ℕ → List (Option (List 
   pub failures : CountsIf unheard old.failures new.failures
   pub same : new ≡ record old { journal = new.journal; failures = new.failures; told = new.told; wire = new.wire }
 
--- The pens were looked at, and all said that they are done, or not.
+-- The producers were looked at, and all said that they are done, or not.
 pub record LooksNow {X C : Type 0} (old new : NodeView X C) : Type 0 where
   pub pens_done : Bool
   pub same : new ≡ record old { well = record old.well { done_at = looked_at pens_done old.well.nones } }
@@ -35,8 +35,8 @@ pub record DrawsNow {X C : Type 0} (now most : ℕ) (none_left : Bool) (old new 
   pub drew : DrewStrokes now most none_left old.journal new.journal old.well new.well old.hand new.hand
   pub same : new ≡ record old { journal = new.journal; well = new.well; hand = new.hand }
 
--- The member leaves where it is to by now, no stroke is left, and the well was found to have none after its pens said that they are done; else it stays,
--- and is still to leave if it was.
+-- The member leaves where it is to by now, no stroke is left, and the stroke queue was found to have none after its producers said that they are done; else it
+-- stays, and is still to leave if it was.
 pub record LeavesNow {X C : Type 0} (now : ℕ) (none_left : Bool) (old new : NodeView X C) : Type 0 where
   pub leaves : Leaves now (is_to_leave none_left (is_drained old.well) old.asked now) old.journal new.journal
   pub same : new ≡ record old { journal = new.journal; asked = still_asked (is_to_leave none_left (is_drained old.well) old.asked now) old.asked }
@@ -59,8 +59,8 @@ pub record GivesNow {X C : Type 0} (below : ℕ) (old new : NodeView X C) : Type
   pub gives : GivesUpTo below old.journal new.journal old.feeds new.feeds
   pub same : new ≡ record old { journal = new.journal; feeds = new.feeds }
 
--- A turn up to its leaving: the clock is read once, what came is heard, the pens are looked at, strokes are drawn, at most as many as may be behind what was heard, and
--- the member leaves if that is due.
+-- A turn up to its leaving: the clock is read once, what came is heard, the producers are looked at, strokes are drawn, at most as many as may be behind what was
+-- heard, and the member leaves if that is due.
 pub record TurnToLeaving {X C : Type 0} (calls : Calls X C) (now : ℕ) (unheard : Bool) (old new : NodeView X C) : Type 0 where
   pub none_left : Bool
   pub came : ℕ
@@ -184,7 +184,7 @@ pub record CutGiving {X C : Type 0} (calls : Calls X C) (old new : NodeView X C)
   pub to_tick : TurnToTick calls unheard unsent old ticked
   pub gives : GivesCut ticked new
 
--- The turn was cut by want of memory, in one of its parts. The parts before were done, each as in a whole turn.
+-- Memory ran out in one part of the turn. The parts before were done, each as in a whole turn.
 abbrev pub IsCut : {X C : Type 0} → Calls X C → NodeView X C → NodeView X C → Type 0
 IsCut calls old new = CutHearing calls old new ⊎ CutDrawing calls old new ⊎ CutLeaving calls old new ⊎ CutShowing calls old new ⊎ CutTicking calls old new ⊎ CutGiving calls old new
 

@@ -71,7 +71,7 @@ not_a_new_journal e h = let none : e ∷ [] ≡ [] = ap (λ (j : Journal). j.ent
 
 -- WHAT THE TURN WRITES
 
--- One stroke is in the well. It is drawn and sent at moment 1; then slot 0 is given its page and the drawop, and then there is nothing more.
+-- One stroke is in the stroke queue. It is drawn and sent at moment 1; then slot 0 is given its page and the drawop, and then there is nothing more.
 abbrev pub stroke : Stroke
 stroke = record { pen = 0; page = first_page; body = 97 ∷ [] }
 
@@ -172,7 +172,7 @@ lawful = lawful_journal (journal entries) (record {
 abbrev heard : LaneId → WellView → Node
 heard lane well = heard_nothing None lane well
 
--- after the pens said that they are done the stroke was received, and then none was there so often
+-- after the producers said that they are done the stroke was received, and then none was there so often
 abbrev popped : ℕ → WellView → WellView
 popped nones well = record well { received = well.received ++ stroke ∷ []; nones = well.nones + nones; done_at = Some well.nones }
 

@@ -18,7 +18,9 @@ use std::sync::Wait;
 /// What a turn drew: how many strokes, and whether none is left, in the queue or in hand.
 #[derive(Clone, Copy)]
 pub struct Drawn {
+    /// How many strokes it drew.
     pub count: u8,
+    /// Whether none is left.
     pub none_left: bool,
 }
 

@@ -18,7 +18,7 @@ pub fn none_closed(alloc: Global) -> Result<Vec<bool>, AllocError>
     vec![in alloc; false; usize::from(PAGES)]
 }
 
-/// Whether a member in this state is gone, and each of these feeds has put its close or is disconnected.
+/// Returns whether a member in this state is gone, and each of these feeds has put its close or is disconnected.
 pub fn is_ended(after: AgentState, feeds: &[Feed], closed: &[bool]) -> bool
     requires { closed.now ≡ map has_closed feeds.now }
     ensures { result ≡ (is_gone after && list_all has_nothing_more feeds.now) }

@@ -26,7 +26,8 @@ use std::sync::Wait;
 use std::thread;
 use std::thread::{Promise, PromisedHandle, Threads};
 
-/// A worker's promise: its tap is of this tap's lane, it took what its list has, this sink saw each message of the list, and it ended as it says.
+/// A worker's promise, for contracts alone: its tap is of this tap's lane, it took what its list has, this sink saw each message of the list, and it ended as it
+/// says.
 #[derive(Drop)]
 pub struct WorksOn<S: PageSink>(Snapshot<Tap>, Snapshot<S>);
 
@@ -36,7 +37,7 @@ impl<S: PageSink, L: Past<PageMsg> + Drop> Promise<Worked<L>> for WorksOn<S> {
     ghost kept_by = { λ p w. WorkedFrom L.appended L.is_refused S.sees p.0.value p.1.value w };
 }
 
-/// A worker in its thread.
+/// A worker in its thread. [`host`] makes and joins them; it is public because contracts name it.
 #[derive(Drop)]
 pub struct Worker<L: Past<PageMsg> + Drop, S: PageSink> {
     handle: PromisedHandle<Worked<L>, WorksOn<S>>,
@@ -45,18 +46,24 @@ pub struct Worker<L: Past<PageMsg> + Drop, S: PageSink> {
 /// What became of a node and its workers. The node keeps its entries, and each worker what it took, unless other histories are named.
 #[derive(Drop)]
 pub struct Hosted<P: Past<Entry> + Drop = Vec<Entry>, L: Past<PageMsg> + Drop = Vec<PageMsg>> {
+    /// What the member did, as it was kept.
     pub journal: Journal<P>,
     /// Empty after a fault: the feeds were dropped, so that the workers end.
     pub feeds: Vec<Feed>,
+    /// What became of each worker that was started, by page slot.
     pub worked: Vec<Worked<L>>,
+    /// Whether the node ran to its end, or why it stopped.
     pub end: Result<(), NodeFault>,
 }
 
-/// Runs a node in this thread for up to `turns` turns, and eight page workers in threads beside it, one for each tap, which shows the sink at its place what it takes.
-/// Waits for the workers. The type that the caller names for their lists says how these are kept, as with [`work`].
+/// Runs a node in this thread for up to `turns` turns, and eight page workers in threads beside it, one for each tap, which shows the sink at its place what it
+/// takes. Waits for the workers, so it lasts as long as the slowest sink. The type that the caller names for their lists says how these are kept, as with [`work`].
 ///
-/// After a fault of the node the feeds are dropped, so that the workers end. If a worker can't be started, the end is `Memory`, the node isn't turned, and the workers
-/// that were started are returned. Fails only if out of memory before any worker is started.
+/// Preconditions: eight taps and eight sinks, by page slot. A worker that its sink stopped, or that is out of memory, takes nothing more: the run ends with `Ok`
+/// only if the rest of its page feed, the close too, has room in the lane's 64 messages, and else with `Turns`.
+///
+/// After a fault of the node the feeds are dropped, so that the workers end. If a worker's thread can't be started, whatever the cause, the end is `Memory`, the
+/// node isn't turned, and the workers that were started are returned. Fails only if out of memory before any worker is started.
 pub fn host<
     R: Threads + Wait + Copy + Send + 'static,
     W: Words + Drop,
@@ -83,7 +90,8 @@ pub fn host<
     Ok(hosted)
 }
 
-/// Does what [`host`] does, and returns the node's stroke queue too, so that its producers can be put beside what it received ([`Well::join_pen`]).
+/// Does what [`host`] does, and returns the node's stroke queue too, so that [`Well::join_pen`] can compare what it received with what each producer sent. Fails
+/// only if out of memory before any worker is started.
 #[tactic(auto, using(crate::proofs::Hosts::host_ends, crate::proofs::Hosts::host_lanes))]
 pub fn host_with_well<
     R: Threads + Wait + Copy + Send + 'static,

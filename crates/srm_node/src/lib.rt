@@ -3,6 +3,9 @@
 //! A [`Node`] turns: it hears what came, draws what its producers sent, shows the page that another thread asks for, ticks, sends, and gives the page workers their messages.
 //! [`host`] runs a node and its eight page workers until the member has left.
 //!
+//! A page worker ([`work`]) shows what it takes to a [`PageSink`]. [`host`] returns a [`Hosted`], with a [`Worked`] for each worker; [`host_with_well`] returns the
+//! stroke queue too. [`Node::counts`] returns what came to nothing ([`Counts`]). The wires and the clock are those of `srm_wire`.
+//!
 //! ```
 //! let mut node = Node::new(alloc, config, words, wire, clock, feeds, well)?;
 //! let control = node.control(alloc)?; // With it another thread shows pages.

@@ -18,7 +18,9 @@ use srm_world::{Past, Recorder};
 /// What a turn heard: how many datagrams, and whether a receive failed.
 #[derive(Clone, Copy)]
 pub struct Listening {
+    /// How many datagrams it heard.
     pub count: u8,
+    /// Whether a receive failed.
     pub failed: bool,
 }
 

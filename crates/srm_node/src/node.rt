@@ -101,8 +101,8 @@ impl<W: Words + Drop, X: Wire + Drop, C: Clock + Drop, P: Past<Entry> + Drop> Mo
 }
 
 impl<W: Words + Drop, X: Wire + Drop, C: Clock + Drop> Node<W, X, C> {
-    /// Makes a node that has done nothing yet. Reads the clock once: its moment is the one at which the member is made. There are eight feeds, one for each page slot.
-    /// None has put anything or is disconnected, and nothing was received from the stroke queue.
+    /// Makes a node that has done nothing yet. Reads the clock once, and makes the member at that moment. Preconditions: `feeds` are eight, the k-th of page slot k,
+    /// none has put anything or is disconnected, and nothing was received from `well`. `words` are the member's random numbers.
     ///
     /// Fails only if out of memory.
     pub fn new(
@@ -133,8 +133,8 @@ impl<W: Words + Drop, X: Wire + Drop, C: Clock + Drop> Node<W, X, C> {
 }
 
 impl<W: Words + Drop, X: Wire + Drop, C: Clock + Drop> Node<W, X, C, Forgotten<Entry>> {
-    /// Makes a node that keeps no entry, for a member that runs for days, and else does what [`new`](Node::new) does. Its calls have the same contracts, which speak of
-    /// the journal that it would keep.
+    /// Makes a node as [`new`](Node::new) does, with the same preconditions, that keeps no entry: for a member that runs for days. Its calls have the same
+    /// contracts, which speak of the journal that it would keep. Fails only if out of memory.
     pub fn forgetful(
         alloc: Global,
         config: Config,
@@ -156,7 +156,7 @@ impl<W: Words + Drop, X: Wire + Drop, C: Clock + Drop> Node<W, X, C, Forgotten<E
 }
 
 impl<W: Words + Drop, X: Wire + Drop, C: Clock + Drop, P: Past<Entry> + Drop> Node<W, X, C, P> {
-    /// Does what [`new`](Node::new) does, with a history that the caller passes in, which has no entry yet.
+    /// Makes a node as [`new`](Node::new) does, with the same preconditions and a history of the caller's, which is empty. Fails only if out of memory.
     pub fn with_past(
         alloc: Global,
         config: Config,
@@ -216,17 +216,18 @@ impl<W: Words + Drop, X: Wire + Drop, C: Clock + Drop, P: Past<Entry> + Drop> No
         })
     }
 
-    /// Asks the node to leave from the moment `at` on, in microseconds. It leaves in its first turn from then on that finds no stroke in the queue or in hand after all
-    /// producers have said that they are done. A later call replaces an earlier one. A clock past 2^48 counts as 2^48, so a moment after that never comes. Takes no
-    /// memory.
+    /// Asks the node to leave from the moment `at` on, in microseconds. It leaves in its first turn from then on that finds no stroke in the queue or in hand after
+    /// all four producers are [`done`](srm_pages::Pen::done); a producer that was dropped isn't. A later call replaces an earlier one. A clock past 2^48 counts as
+    /// 2^48, so a moment after that never comes. Takes no memory.
     pub fn ask_leave(&mut self, at: u64)
         ensures { self.new ≡ record self.old { view = record self.old.view { asked = Some at } } }
     {
         self.asked = Some(at);
     }
 
-    /// Makes a handle by which one other thread shows and begins pages of the member. Each turn carries out its next command, in order, and answers it. A handle that
-    /// was made before is disconnected: its commands that have no answer get none.
+    /// Makes a handle for one other thread, which shows and begins pages of the member. Each turn carries out its next command, in order, and answers it. A handle
+    /// that was made before is disconnected: its commands that have no answer get none. A pausing node finds a command within 10 ms, or at once if its wire is
+    /// woken.
     ///
     /// Fails only if out of memory, and then nothing has changed.
     pub fn control(&mut self, alloc: Global) -> Result<PageControl, AllocError>
@@ -242,8 +243,8 @@ impl<W: Words + Drop, X: Wire + Drop, C: Clock + Drop, P: Past<Entry> + Drop> No
     /// Turns once: the member hears, draws, leaves, shows a page, ticks and gives, as far as there is cause. The clock is read once, for the whole turn.
     ///
     /// 1. It hears up to 64 datagrams, until none is there or a receive fails.
-    /// 2. It draws at most 64 strokes less the datagrams heard, and never has to stop before 8, as long as the rate lets each go at once. A stroke that the rate keeps
-    ///    back is in hand for the next turn.
+    /// 2. It draws up to 64 strokes less the datagrams heard, but up to 8 in any case, as long as the rate lets each go at once. A stroke that the rate keeps back
+    ///    is in hand for the next turn. One that the agent refuses is dropped, and counted ([`counts`](Node::counts)).
     /// 3. It leaves if it was asked to by now, no stroke is left, and the queue was empty after a look that found all producers done.
     /// 4. It carries out the next command of its control, if there is one, and answers it.
     /// 5. It ticks, and sends what the tick sends to every other member, in rising order.

@@ -12,9 +12,13 @@ const SHORTEST: u64 = 1_000;
 /// What a turn did: how many datagrams it heard, how many strokes it drew and might draw at most, and whether it found a command of the control.
 #[derive(Clone, Copy)]
 pub struct Turn {
+    /// How many datagrams it heard, 0 to 64.
     pub heard: u8,
+    /// How many strokes it drew.
     pub drawn: u8,
+    /// How many strokes it might draw, 0 to 64.
     pub most: u8,
+    /// Whether it found a command.
     pub obeyed: bool,
 }
 

@@ -101,7 +101,7 @@ fn page_of<W: Words + Drop, P: Past<Entry> + Drop>(
     }
 }
 
-// Shows a page. Each refusal but for memory has its entry.
+// Shows a page. A refused call has its entry, unless it was out of memory.
 fn show<W: Words + Drop, P: Past<Entry> + Drop>(
     recorder: &mut Recorder<W, P>,
     page: &Page,

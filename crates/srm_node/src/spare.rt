@@ -11,7 +11,9 @@ use std::alloc::{AllocError, Global};
 /// The buffer that datagrams are received into, and that no feed put its close yet.
 #[derive(Drop)]
 pub struct Spare {
+    /// The buffer, 4,096 bytes.
     pub buffer: Vec<u8>,
+    /// For each feed, whether it put its close.
     pub closed: Vec<bool>,
 }
 

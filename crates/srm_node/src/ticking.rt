@@ -27,7 +27,7 @@ pub fn tick<W: Words + Drop, P: Past<Entry> + Drop>(
     }
 }
 
-/// Leaves if `leaves` says so, or does nothing. Each refusal but for memory has its entry. Fails only if out of memory, and then nothing has changed.
+/// Leaves if `leaves` says so, or does nothing. A refused call has its entry. Fails only if out of memory: then it has none, and nothing has changed.
 pub fn leave<W: Words + Drop, P: Past<Entry> + Drop>(
     recorder: &mut Recorder<W, P>,
     leaves: bool,

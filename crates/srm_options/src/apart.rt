@@ -1,8 +1,8 @@
-//! Whether addresses are apart, so that each member has one of its own.
+//! Whether each member has an address that no other has.
 
 use std::net::SocketAddr;
 
-/// Whether the first address, if there is one, stands nowhere behind, or has port 0, for which the system chooses one.
+/// Returns whether no later address is the first one, or the first has port 0, for which the system chooses one.
 pub fn is_first_apart(addresses: &[SocketAddr]) -> bool {
     match addresses {
         [] => true,

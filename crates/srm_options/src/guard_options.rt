@@ -9,7 +9,7 @@ use clap::{ArgMatches, Command, value_parser};
 use srm_names::{DRAWOPS, MEMBERS, PAGES};
 use std::alloc::{AllocError, Global};
 
-/// The most drawops that a member can miss: all of each stream of each page that it has a slot for.
+/// The most drawops that a member can miss, 16,777,216: all 65,536 of each of 32 streams on each of 8 pages.
 pub const MOST_MISSING: u32 = DRAWOPS * MEMBERS as u32 * PAGES as u32;
 
 /// Which datagrams a node drops, as if the network had lost them.

@@ -1,5 +1,8 @@
 //! The command lines of `srm`.
 //!
+//! [`read_node`] and [`read_node_on`] return [`NodeOptions`], with the [`GuardOptions`] of the node; [`read_world`] returns [`WorldOptions`]; [`read_picture`]
+//! returns nothing, since `srm picture` has no options.
+//!
 //! ```
 //! match read_node(alloc, arguments) { // the arguments behind `srm node`
 //!     Ok(options) => run(options),
@@ -7,8 +10,8 @@
 //! }
 //! ```
 //!
-//! **Failures.** Arguments that aren't a command line of `srm world`, `srm picture` or `srm node` get a [`Reply`]: the help or the version if they ask for it, what is wrong in them, or
-//! that memory ran out.
+//! **Errors.** Arguments that aren't a command line of `srm world`, `srm picture` or `srm node` get a [`Reply`]: the help or the version if they ask for it, what is
+//! wrong in them, which host isn't found, or that memory ran out.
 #![tactic(auto)]
 
 mod apart;

@@ -12,7 +12,7 @@ const RATE: u32 = 64_000;
 /// Without `--linger` a live member leaves once nobody asked for what it holds for so many microseconds.
 pub const LIVE_LINGER: u64 = 2_000_000;
 
-/// What a live member may send and how long it waits.
+/// Returns what a live member may send and how long it waits.
 pub fn live_settings() -> Settings {
     Settings {
         rate: RATE,

@@ -26,14 +26,20 @@ const STAY: u64 = 5_000_000;
 /// Without `--turns` it turns so often, at most.
 const TURNS: u64 = 1_000_000;
 
-/// Reads the arguments behind `srm node`. Returns options in their ranges, or a [`Reply`]: the help if they ask for it, what is wrong in them, or that memory ran out.
+/// Reads the arguments behind `srm node`, and looks up no names of hosts. Returns options in their ranges.
+///
+/// Fails with [`Reply::Help`] if the arguments ask for it, [`Reply::Wrong`] with what is wrong in them, [`Reply::Unresolved`] for the first address of a live member
+/// that is a host's name, and [`Reply::Memory`] if out of memory.
 pub fn read_node<'a>(alloc: Global, arguments: &'a [&'a str]) -> Result<NodeOptions, Reply>
     ensures { IfOk result AreInRange }
 {
     read_with(alloc, arguments, &NoNames)
 }
 
-/// The same, and a live member's addresses may be names of hosts, which it asks the system for. A [`Reply`] tells too which name wasn't found.
+/// Does what [`read_node`] does, and asks the system for the addresses of hosts that a live member's line names, which may wait for the network. All members get an
+/// IPv4 address if each has one, else all an IPv6 address.
+///
+/// Fails as [`read_node`] does; [`Reply::Unresolved`] names the first host that the system doesn't find.
 pub fn read_node_on<'a, R: Net + Copy>(
     rt: &R,
     alloc: Global,

@@ -16,21 +16,21 @@ pub const LONGEST_LINGER: u64 = 30_000_000;
 pub struct NodeOptions {
     /// The member, which is the place of its address, from 0; its session; its rate, depth and waits.
     pub config: Config,
-    /// The seed of the random numbers that choose its waits.
+    /// The seed of the random numbers that choose its waits, any number. Without `--start` it is 0, or the member's number if it is live.
     pub seed: u64,
     /// The microseconds after which it leaves, up to 2^48: since its start, or since the end of its input if it is live.
     pub stay: u64,
-    /// The microseconds, up to 30,000,000, for which nobody may have asked for what it holds before it leaves; 0 if it leaves anyway.
+    /// For how many microseconds, 0 to 30,000,000, nobody must have needed what a live member holds before it leaves. 0 for any other member.
     pub linger: u64,
-    /// How often it turns at most.
+    /// The most turns of its node, 0 to 2^64 - 1. A live member has as many as it needs unless its line says otherwise.
     pub turns: u64,
     /// Whether it is live: it draws each line as it is typed, and prints each message as it is taken.
     pub live: bool,
-    /// Whether it tells why its address can't be bound.
+    /// Whether it tells why its address can't be bound. A live member tells it in any case.
     pub verbose: bool,
     /// Which datagrams the member drops.
     pub guard: GuardOptions,
-    /// The members' addresses by number, one a member.
+    /// The members' addresses by number, one for each of 1 to 32: all IPv4, or of a live member all IPv6.
     pub addresses: Vec<SocketAddr>,
 }
 

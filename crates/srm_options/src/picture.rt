@@ -5,7 +5,8 @@ use crate::reply::Reply;
 use clap::Command;
 use std::alloc::{AllocError, Global};
 
-/// Reads the arguments behind `srm picture`, which takes none. Fails with a [`Reply`] if there are any, or if out of memory.
+/// Reads the arguments behind `srm picture`, which takes none. Fails with [`Reply::Help`] for `--help`, [`Reply::Wrong`] for any other argument, and
+/// [`Reply::Memory`] if out of memory.
 pub fn read_picture<'a>(alloc: Global, arguments: &'a [&'a str]) -> Result<(), Reply> {
     let mut command = picture_command(alloc)?;
     command.try_get_matches_from_mut(arguments)?;

@@ -1,4 +1,4 @@
-//! What a command line gets in place of being done.
+//! What a command line gets if it isn't carried out.
 
 use clap::error::ErrorKind;
 use clap::{Command, Error};
@@ -12,14 +12,14 @@ pub enum Reply {
     Help(Text),
     /// What is wrong in it.
     Wrong(Text),
-    /// An address in it names a host that can't be found: the line that standard error gets.
+    /// It names a host that isn't found, or that wasn't looked up ([`read_node`](crate::read_node)): the line for standard error, without its line end.
     Unresolved(String),
     /// Memory ran out.
     Memory,
 }
 
 impl Reply {
-    /// What this command says of such a mistake in its words.
+    /// Returns what this command says of such a mistake.
     pub(crate) fn to(command: &mut Command<'_>, kind: ErrorKind, text: &str) -> Reply {
         match command.error(kind, text) {
             Ok(error) => Reply::from(error),

@@ -15,8 +15,9 @@ pub struct WorldOptions {
     pub extended: bool,
 }
 
-/// Reads the arguments behind `srm`, if the first is neither `node` nor `picture`. Returns options if they ask for `srm world`, or a [`Reply`]: the help or the version if they ask for it, what is
-/// wrong in them, or that memory ran out.
+/// Reads the arguments behind `srm`, if the first is neither `node` nor `picture`. Returns options if they ask for `srm world`. Fails with [`Reply::Help`] if they
+/// ask for help or the version, [`Reply::Wrong`] with what is wrong in them, also if `node` or `picture` stands behind an option, and [`Reply::Memory`] if out of
+/// memory.
 pub fn read_world<'a>(alloc: Global, arguments: &'a [&'a str]) -> Result<WorldOptions, Reply> {
     let mut command = srm_command(alloc)?;
     let matches = command.try_get_matches_from_mut(arguments)?;

@@ -18,11 +18,15 @@ pub enum Method {
 /// What a request says of who asks, and for what: its method, its path, and the first value of each header.
 #[derive(Drop)]
 pub struct Asked<'a> {
+    /// Its method.
     pub method: Method,
+    /// Its path, without the query.
     pub path: &'a [u8],
+    /// The header `Host`: the server that it names.
     pub host: Option<&'a [u8]>,
     /// Where the page comes from that asks, as the browser says: `Sec-Fetch-Site` and `Origin`.
     pub site: Option<&'a [u8]>,
+    /// The header `Origin`: the page that it comes from. `site` above is `Sec-Fetch-Site`.
     pub origin: Option<&'a [u8]>,
     /// Whether it has the header `x-srm`, which a page of another site can't put on a request without asking this server first.
     pub is_marked: bool,

@@ -18,7 +18,7 @@ pub fn seen_in(query: &str) -> (usize, u64) {
     (from, seen)
 }
 
-/// Reads a page and a body from a line, as `C.P BODY`. Returns `None` if the line isn't so, or the body is longer than 1,024 bytes. Fails only out of memory.
+/// Reads a page and a body from a line, as `C.P BODY`. Returns `None` if the line isn't so, or the body is longer than 1,024 bytes. Fails only if out of memory.
 pub fn stroke_in(alloc: Global, line: &[u8]) -> Result<Option<(Page, Bytes)>, AllocError> {
     let Some(space) = line.iter().position(|byte| *byte == b' ') else {
         return Ok(None);

@@ -19,7 +19,7 @@ const DRAW: &[u8] = b"draw";
 
 const LEAVE: &[u8] = b"leave";
 
-/// Whom a server answers: who names one of its hosts, knows where its page is, and asks from that page.
+/// Whom a server answers: a request that names one of its hosts and the path of its page, and that comes from this page unless it asks for the page itself.
 #[derive(Drop)]
 pub struct Guard {
     // The server's address and its other names, as a browser's `Host` has them.
@@ -66,7 +66,8 @@ pub enum Judged {
 }
 
 impl Guard {
-    /// Makes a guard that answers to these names, each a host and port as `127.0.0.1:8080`, or with `is_anywhere` to any name, at paths that begin with `root`.
+    /// Makes a guard that answers to these names, each a host and port as `127.0.0.1:8080`, or with `is_anywhere` to any name, at paths that begin with `root`: `/`,
+    /// or `/TOKEN/` with a [`new_token`](crate::new_token). Nothing checks that it ends with a slash. With `is_anywhere` the token alone keeps others out.
     pub fn new(hosts: Vec<String>, is_anywhere: bool, root: String) -> Guard
         ensures { result ≡ record { hosts = map string_bytes hosts.items; is_anywhere = is_anywhere; root = string_bytes root } }
     {
@@ -77,7 +78,8 @@ impl Guard {
         }
     }
 
-    /// Decides what becomes of a request.
+    /// Decides what becomes of a request: `Misdirected` if it names none of the hosts, compared byte for byte, or none at all; else `Unknown` if there is nothing at
+    /// its path for its method; else `Foreign` if it asks for more than the page and doesn't come from it. Takes no memory.
     pub fn judge(&self, asked: &Asked<'_>) -> Judged
         ensures { result ≡ judged self.now asked.now }
     {

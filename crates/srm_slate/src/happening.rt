@@ -11,18 +11,18 @@ use std::alloc::{AllocError, Global};
 pub enum Happening {
     /// A drawop was found missing.
     Missed(Name),
-    /// It was asked for.
+    /// The member requested it.
     Asked(Name),
     /// A drawop that was missing came, in a datagram of this member.
     Gained(Name, Member),
     /// A drawop that another misses was repaired.
     Repaired(Name),
-    /// A stroke of this member wasn't drawn, for the cause with this number.
+    /// A stroke of this member on the page wasn't drawn: the page, the number of the agent's fault, 1 to 5 as `srm world` prints it (`refused WHY`), and the body.
     Refused(Page, u8, Bytes),
 }
 
 impl Happening {
-    /// Returns an equal happening, over the same bytes. Fails only out of memory.
+    /// Returns an equal happening, over the same bytes. Fails only if out of memory.
     pub fn copy(&self) -> Result<Happening, AllocError>
         ensures { IfOk result (λ copy. copy ≡ self.now) }
     {
@@ -38,7 +38,7 @@ impl Happening {
     }
 }
 
-/// Returns equal ones of a list, in order. Fails only out of memory.
+/// Returns equal ones of a list, in order. Fails only if out of memory.
 pub fn copies(alloc: Global, all: &[Happening]) -> Result<Vec<Happening>, AllocError>
     ensures { IfOk result (λ copies. copies.items ≡ all.now) }
 {

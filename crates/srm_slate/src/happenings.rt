@@ -44,7 +44,7 @@ impl Happenings {
         }
     }
 
-    /// Adds what befell the member; the oldest goes where 256 are kept. Fails only out of memory, and then nothing has changed.
+    /// Adds what befell the member, and drops the oldest beyond 256. Fails only if out of memory, and then nothing has changed.
     #[tactic(auto, using(crate::proofs::Newest::newest_all, crate::proofs::Newest::newest_but_one))]
     pub fn push(&mut self, happening: Happening) -> Result<(), AllocError>
         ensures ok { OnOk result (self.new ≡ record { kept = newest KEPT (self.old.kept ++ happening ∷ []); count = one_more self.old.count }) }
@@ -65,7 +65,7 @@ impl Happenings {
         self.count
     }
 
-    /// Returns copies of those behind the first `seen`, as far as they are kept, in order. Fails only out of memory.
+    /// Returns copies of those behind the first `seen`, as far as they are kept, in order. Fails only if out of memory.
     pub fn behind(&self, seen: u64) -> Result<Vec<Happening>, AllocError>
         ensures { IfOk result (λ behind. behind.items ≡ newest (self.now.count - seen) self.now.kept) }
     {

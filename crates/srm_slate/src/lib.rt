@@ -1,10 +1,14 @@
-//! What the browsers of a member's board are shown, and the server that shows it.
+//! The board of a member: what its browsers see, and the server that shows it.
 //!
 //! A [`Slate`] holds the messages that a member's page workers took, in order, and what befell the member: what it misses, requests, receives late and repairs.
 //! [`open_door`] serves it over HTTP: the page, a long poll of what is new, and the strokes that the page draws, which go to an [`Easel`].
 //!
 //! Each tab asks for what comes behind what it has, so a tab that is slow or asleep delays nobody. What a tab was told is a prefix of what the workers took: the contract
 //! of [`Record::look`] says so.
+//!
+//! A [`Record`] has what the workers took ([`Taken`]) and what befell the member ([`Happening`]); [`Record::look`] returns a [`Look`] with [`Counts`]. [`open_door`]
+//! takes a [`Face`] and returns a [`Door`]. A [`Guard`] judges what a request says ([`Asked`], [`Method`]): a [`Judged`], which grants a [`Wish`]. [`new_token`]
+//! makes a token. An [`Easel`] returns a [`Drawn`].
 //!
 //! ```
 //! let slate = Arc::new(alloc, Slate::new(alloc))?;
@@ -14,10 +18,11 @@
 //! door.close(&rt);
 //! ```
 //!
-//! **Who may ask.** [`Guard::judge`] refuses any request that names another host, lacks the token of the page's address, or comes from a page of another site.
+//! **Who may ask.** [`Guard::judge`] refuses a request that names another host or lacks the token of the page's address, and any but that for the page itself that
+//! doesn't come from this page.
 //!
-//! **Errors.** Out of memory, a [`Record`] keeps no later message and says that it is lossy; a request gets no answer, and the page asks again. [`open_door`] returns `None`
-//! if it can't start its threads.
+//! **Errors.** If out of memory, a [`Record`] keeps no later message and says that it is lossy; a request gets no answer, and the page asks again. [`open_door`]
+//! returns `None` if it can't start its threads.
 #![tactic(auto)]
 
 mod asked;

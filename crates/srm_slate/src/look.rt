@@ -9,12 +9,15 @@ use srm_names::{MEMBERS, Name};
 pub struct Counts {
     /// Datagrams that were sent, each counted once for all members, and those that came from others.
     pub sent: u64,
+    /// Datagrams that came from other members.
     pub came: u64,
     /// The requests and the repairs among those that were sent.
     pub requests: u64,
+    /// The repairs among those that were sent.
     pub repairs: u64,
     /// Datagrams that the agent ignored, and what came and is no datagram of the session.
     pub ignored: u64,
+    /// What came and is no datagram of the session.
     pub noise: u64,
 }
 
@@ -27,11 +30,13 @@ pub struct Look {
     pub happenings: Vec<Happening>,
     /// How often something befell it.
     pub happened: u64,
-    /// How many drawops are known to be missing, and whether there are more of which nothing was kept.
+    /// How many missing drawops are kept by name, 0 to 4,096.
     pub missing: usize,
+    /// Whether more are missing than are kept by name.
     pub has_more: bool,
     /// The first 64 of them, each with the greatest number that came of its stream.
     pub holes: Vec<(Name, u32)>,
+    /// The datagrams that passed, and what the member made of them.
     pub counts: Counts,
     /// How many datagrams came from each member.
     pub heard: [u64; MEMBERS as usize],

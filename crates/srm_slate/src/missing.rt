@@ -46,7 +46,8 @@ impl Missing {
         }
     }
 
-    /// Notes that a drawop is missing, and returns whether that is new and its name was kept. Fails only out of memory; then no name was added, and there are more.
+    /// Notes that a drawop is missing, and returns whether that is new and its name was kept. Fails only if out of memory: then no name was added, and `has_more` is
+    /// set.
     pub fn add(&mut self, name: Name) -> Result<bool, AllocError>
         ensures ok { OnOk result (self.new ≡ with_missing name self.old) }
         ensures added { IfOk result (λ added. added ≡ is_new name self.old) }
@@ -90,7 +91,7 @@ impl Missing {
         self.names.len()
     }
 
-    /// Whether more drawops are missing than are kept by name.
+    /// Returns whether more drawops are missing than are kept by name.
     pub fn has_more(&self) -> bool
         ensures { result ≡ self.now.has_more }
     {

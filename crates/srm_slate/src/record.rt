@@ -63,8 +63,8 @@ impl Record {
         }
     }
 
-    /// Adds a message that the page worker of a slot took. Fails only out of memory, and from then on always: no later message is kept, so that what is shown
-    /// stays a prefix of what was taken.
+    /// Adds a message that the worker of a page slot, 0 to 7, took. Fails only if out of memory, and from then on always: no later message is kept, so that what is
+    /// shown stays a prefix of what was taken.
     #[tactic(auto, using(crate::proofs::Prefixes::stays_behind, crate::proofs::Prefixes::stays_equal))]
     pub fn take(&mut self, slot: u8, message: &PageMsg) -> Result<(), AllocError>
         ensures ok { OnOk result (self.new ≡ record self.old { taken = self.old.taken ++ (record { slot = slot; message = message.now }) ∷ [] }) }
@@ -83,7 +83,8 @@ impl Record {
     }
 
     /// Returns what is new to a tab that was told the first `from` messages and saw the first `seen` happenings: the next 1,000 messages, and the later happenings
-    /// as far as they are kept. Fails only out of memory. A tab that puts these messages behind those that it has, and asks from there, has a prefix of what was taken.
+    /// as far as they are kept. Fails only if out of memory. A tab that puts these messages behind those that it has, and asks from there, has a prefix of what was
+    /// taken.
     #[tactic(auto, using(crate::proofs::Prefixes::keeps_prefix))]
     pub fn look(&self, from: usize, seen: u64) -> Result<Look, AllocError>
         ensures told { IfOk result (λ look. look.taken.items ≡ told_from from self.now.taken) }
@@ -108,7 +109,7 @@ impl Record {
         })
     }
 
-    /// Whether nothing is new to a tab that was told the first `from` messages and saw the first `seen` happenings, and more may come.
+    /// Returns whether nothing is new to a tab that was told the first `from` messages and saw the first `seen` happenings, and more may come.
     pub fn is_old(&self, from: usize, seen: u64) -> bool
         ensures { result ≡ (nat_le (length self.now.taken) from && self.now.happenings.count == seen && not self.now.has_ended) }
     {
@@ -131,8 +132,8 @@ impl Record {
         self.reached.get(&stream).copied().unwrap_or(0)
     }
 
-    /// Notes that a drawop was found missing, once or again. Fails only out of memory; nobody is told of it as news then, but it is among the missing, or it is said
-    /// that there are more.
+    /// Notes that a drawop was found missing, once or again. Fails only if out of memory: then no [`Happening`] is added, and the name is among the missing, or
+    /// [`Look::has_more`] is set.
     pub fn miss(&mut self, name: Name) -> Result<(), AllocError>
         ensures ok { OnOk result (self.new ≡ missed name self.old) }
         ensures told { is_told_of self.new.missing name ≡ true }
@@ -144,7 +145,7 @@ impl Record {
         Ok(())
     }
 
-    /// Notes that a drawop came in a datagram of this member. That is news where it was missing. Fails only out of memory; then nobody is told of it as news.
+    /// Notes that a drawop came in a datagram of this member. If it was missing, a [`Happening`] says so. Fails only if out of memory: then none does.
     pub fn gain(&mut self, name: Name, by: Member) -> Result<(), AllocError>
         ensures ok { OnOk result (self.new ≡ gained name by self.old) }
         ensures err { OnErr result (self.new ≡ record self.old { missing = without_missing name self.old.missing }) }
@@ -164,7 +165,7 @@ impl Record {
         let _ = self.reached.insert(name.stream(), reached);
     }
 
-    /// Adds what befell the member; the last 256 are kept. Fails only out of memory, and then nothing has changed.
+    /// Adds what befell the member; the last 256 are kept. Fails only if out of memory, and then nothing has changed.
     pub fn happen(&mut self, happening: Happening) -> Result<(), AllocError>
         ensures ok { OnOk result (self.new ≡ happened happening self.old) }
         ensures err { OnErr result (self.new ≡ self.old) }

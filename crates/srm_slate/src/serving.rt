@@ -30,18 +30,24 @@ const TRIES: u8 = 250;
 /// A member as its browsers see it.
 #[derive(Drop)]
 pub struct Shown<K: Easel + Drop> {
+    /// What the server shows, and to whom.
     pub face: Face,
     /// By which a page knows that this is another run than the one that it saw.
     pub run: u64,
+    /// What there is to show.
     pub slate: Arc<Slate, Global>,
+    /// What strokes go to.
     pub easel: K,
 }
 
 /// Answers the requests of one connection.
 #[derive(Drop)]
 pub struct Desk<R: Wait + Clock + Drop, K: Easel + Drop> {
+    /// The runtime.
     pub rt: R,
+    /// The allocator for answers.
     pub alloc: Global,
+    /// The member.
     pub shown: Arc<Shown<K>, Global>,
 }
 
@@ -98,7 +104,7 @@ impl<R: Wait + Clock + Drop, K: Easel + Drop> Desk<R, K> {
         response.body.put_slice(text.as_str().as_bytes())
     }
 
-    // Draws a stroke a line, until one isn't taken in time, and answers how many were. Behind a line that is no stroke nothing is drawn.
+    // Draws a stroke a line, until one isn't taken in time, and tells how many were. Nothing is drawn behind a line that is no stroke.
     fn draw(&self, lines: &[u8], response: &mut Response) -> Result<(), AllocError> {
         let mut taken = 0_u64;
         let mut tries = TRIES;

@@ -36,7 +36,8 @@ impl Slate {
         self.changed.notify_all();
     }
 
-    /// Adds a message that the page worker of a slot took, and wakes the browsers that wait. Out of memory the record notes that it is lossy.
+    /// Adds a message that the worker of a page slot, 0 to 7, took, and wakes the browsers that wait. It can't fail: if out of memory, the record notes that it is
+    /// lossy, and keeps no later message.
     pub fn take<R: Wait>(&self, rt: &R, slot: u8, message: &PageMsg) {
         // Out of memory: the record says so itself.
         let _ = self.lock(rt).take(slot, message);
@@ -50,13 +51,13 @@ impl Slate {
         self.tell();
     }
 
-    /// Whether the member's run has ended.
+    /// Returns whether the member's run has ended.
     pub fn has_ended(&self) -> bool {
         self.has_ended.load(Ordering::SeqCst)
     }
 
     /// Waits until something is new to a tab that was told the first `from` messages and saw the first `seen` happenings, or the time is up. Returns what
-    /// [`Record::look`] says then. Fails only out of memory.
+    /// [`Record::look`] says then. Fails only if out of memory.
     pub fn look<R: Wait + Clock>(
         &self,
         rt: &R,

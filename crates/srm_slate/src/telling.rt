@@ -8,7 +8,7 @@ use srm_names::{Name, Page, PageMsg};
 use std::alloc::{AllocError, Global};
 use std::fmt;
 
-/// Writes what is new as JSON: what the workers took, what befell the member, and how it stands. Fails only out of memory.
+/// Writes what is new as JSON: what the workers took, what befell the member, and how it stands. Fails only if out of memory.
 pub fn text_of(alloc: Global, face: &Face, run: u64, look: &Look) -> Result<String, AllocError> {
     format!(in alloc; "{}", Told { face, run, look })
 }
