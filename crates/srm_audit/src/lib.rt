@@ -13,6 +13,8 @@
 //! gots.push(Got { member: 1, slot: 0, list: tap_list })?;
 //! let trace = reconcile(alloc, journals, gots)?;
 //! ```
+//!
+//! **Errors.** [`Mismatch`] says why journals aren't those of one honest run, or that memory ran out.
 #![tactic(auto)]
 
 mod ending;

@@ -15,8 +15,8 @@ pub enum Mismatch {
     /// The entry of this member, counted from 0, hears a datagram that nobody can have sent before it.
     #[error("an entry hears what nobody sent before")]
     Unsent { member: Member, entry: usize },
-    /// The list of this slot of this member isn't found: the member isn't in the roster, the slot doesn't exist, an earlier list has the
-    /// same, or the list isn't a prefix of what the member gave there.
+    /// The list of this page slot of this member isn't found: the member isn't in the roster, the slot doesn't exist, an earlier list has the same, or the list
+    /// isn't a prefix of what the member gave there.
     #[error("what was taken isn't what was given")]
     Foreign { member: Member, slot: u8 },
     /// Out of memory. It comes after Roster and Foreign, and may come in place of Unsent.

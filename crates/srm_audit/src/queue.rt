@@ -44,7 +44,7 @@ impl Queue {
         }
     }
 
-    /// Whether no entry is left.
+    /// Returns whether no entry is left.
     pub fn is_empty(&self) -> bool
         ensures { result ≡ (length self.now == 0) }
     {

@@ -37,7 +37,7 @@ impl Spellings {
         }
     }
 
-    /// Whether these are the bytes of a datagram that was sent.
+    /// Returns whether these are the bytes of a datagram that was sent.
     pub fn has(&self, text: &[u8]) -> bool
         ensures { result ≡ is_spelling self.now text.now }
     {

@@ -53,7 +53,7 @@ Writes {A = A} does raw code before after old new = (answer : Result A AgentFaul
 
 -- ---- the calls
 
--- an agent with these settings is made in a handle that held none; or there is no memory for it, and there is still none
+-- an agent with these settings is made in a handle that held none; or memory ran out, and there is still none
 abbrev pub Opens : Config → ℕ → ℕ → ℕ → Option SeatContent → Option SeatContent → Type 0
 Opens c now seed code None (Some seat) = (code ≡ DONE) × IsNewSeat c now seed seat
 Opens c now seed code None None = code ≡ fault_number Memory

@@ -24,7 +24,7 @@ pub const ROOM: u32 = 20;
 /// The handle holds no agent.
 pub const EMPTY: u32 = 21;
 
-/// The page's creator is past 31, or the member has no page of its own left to begin.
+/// The page's creator is past 31, or the member has no page left to begin.
 pub const PAGE: u32 = 22;
 
 /// There is nothing (more) to be taken.
@@ -71,7 +71,7 @@ pub fn of_state(state: AgentState) -> u8
     }
 }
 
-/// Returns the number of the cause for which a datagram was ignored, 1 to 7; 0 if it was taken.
+/// Returns why a datagram was ignored, 1 to 7; 0 if it was accepted.
 pub fn cause_of(outcome: Outcome) -> u8
     ensures { result ≡ cause_of outcome }
 {

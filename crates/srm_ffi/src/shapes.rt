@@ -13,7 +13,9 @@ use srm_seat::TickCounts;
 #[repr(C)]
 #[derive(Clone, Copy)]
 pub struct RawPage {
+    /// The member that began it, 0 to 31.
     pub creator: u8,
+    /// Its number among that member's pages.
     pub number: u16,
 }
 
@@ -21,8 +23,11 @@ pub struct RawPage {
 #[repr(C)]
 #[derive(Clone, Copy)]
 pub struct RawName {
+    /// Its page.
     pub page: RawPage,
+    /// The member that drew it, 0 to 31.
     pub source: u8,
+    /// Its number in its stream, 1 to 65,536.
     pub number: u32,
 }
 
@@ -30,25 +35,39 @@ pub struct RawName {
 #[repr(C)]
 #[derive(Clone, Copy)]
 pub struct RawConfig {
+    /// The bytes of the caller's struct.
     pub size: u32,
+    /// The number of the session.
     pub session: u32,
+    /// Bytes a second that it may send, 1 to 100,000,000.
     pub rate: u32,
+    /// Bytes that its bucket holds, 1,051 to 1,000,000.
     pub depth: u32,
+    /// The member, below `members`.
     pub me: u8,
+    /// How many members there are, 1 to 32.
     pub members: u8,
+    /// The least wait of a request, in distances, 0 to 16.
     pub c1: u8,
+    /// How many distances more it waits at most, 0 to 16.
     pub c2: u8,
+    /// The least wait of a repair, in distances, 0 to 16.
     pub d1: u8,
+    /// How many distances more it waits at most, 0 to 16.
     pub d2: u8,
+    /// The floor under distances to others, in microseconds, 1 to 10,000,000.
     pub least_distance: u64,
 }
 
-/// What became of bytes that were heard: how many timers they set, and the cause and fault for which they were ignored.
+/// What became of bytes that were heard: how many timers they set, and why they were ignored.
 #[repr(C)]
 #[derive(Clone, Copy)]
 pub struct RawHeard {
+    /// How many timers were set.
     pub timers: usize,
+    /// Why they were ignored, 1 to 7; 0 if they were accepted.
     pub cause: u8,
+    /// What is wrong with bytes that are no datagram, 1 to 12; else 0.
     pub fault: u8,
 }
 
@@ -56,9 +75,13 @@ pub struct RawHeard {
 #[repr(C)]
 #[derive(Clone, Copy)]
 pub struct RawTicked {
+    /// How many names it requested.
     pub requests: usize,
+    /// How many names it repaired.
     pub repairs: usize,
+    /// How many datagrams are to be sent.
     pub datagrams: usize,
+    /// Whether the member is active, 1, leaving, 2, or gone, 3.
     pub state: u8,
 }
 
@@ -66,9 +89,13 @@ pub struct RawTicked {
 #[repr(C)]
 #[derive(Clone, Copy)]
 pub struct RawMessage {
+    /// When the drawop was drawn, in microseconds of its source's clock.
     pub stamp: u64,
+    /// The bytes of its body.
     pub length: usize,
+    /// The page, the drawop's name, or the member that left.
     pub name: RawName,
+    /// 1 the page, 2 a drawop, 3 a member that left, 4 the close.
     pub kind: u8,
 }
 

@@ -12,7 +12,7 @@ use srm_names::{Member, Page};
 use srm_seat::Handle;
 use std::alloc::Global;
 
-/// Returns the next moment at which a tick does something; the greatest number if there is none, or the handle is empty.
+/// Returns when a tick next does something, in microseconds; 2^64 - 1 if none will, or the handle is empty.
 #[unsafe(no_mangle)]
 pub extern "C" fn srm_raw_next_due(alloc: Global, handle: &mut Handle) -> u64
     ensures { DueCall result handle.old.value handle.new.value }
@@ -38,7 +38,7 @@ pub extern "C" fn srm_raw_state(alloc: Global, handle: &mut Handle) -> u8
     of_state(state)
 }
 
-/// Writes the page of its own that the member would begin next.
+/// Writes the page that the member would begin next.
 ///
 /// Returns `DONE` or the first of these that holds: `EMPTY`; `PAGE` if none is left.
 #[unsafe(no_mangle)]
@@ -89,7 +89,7 @@ pub extern "C" fn srm_raw_distance(
     DONE
 }
 
-/// Whether a body of so many bytes, drawn at this moment, which is any, would wait for no other; false if the handle is empty.
+/// Returns whether the rate would let a body of so many bytes, drawn at `now`, go at once; `now` is any number. False if the handle is empty.
 #[unsafe(no_mangle)]
 pub extern "C" fn srm_raw_admits(
     alloc: Global,
@@ -107,7 +107,7 @@ pub extern "C" fn srm_raw_admits(
     admits
 }
 
-/// Returns from which moment on it would wait for no other; the greatest number if something has to go first, or the handle is empty.
+/// Returns when a body of so many bytes would go at once, in microseconds; 2^64 - 1 if something has to go first, or the handle is empty.
 #[unsafe(no_mangle)]
 pub extern "C" fn srm_raw_admits_from(alloc: Global, handle: &mut Handle, length: usize) -> u64
     ensures { AdmitsFromCall length result handle.old.value handle.new.value }

@@ -23,15 +23,16 @@ use std::alloc::{AllocError, Global};
 pub struct Beginning {
     /// Its settings.
     pub config: Config,
-    /// The moment in microseconds at which it was made.
+    /// The moment when it was made, in microseconds of its clock, at most 2^48.
     pub made: u64,
     /// The seed of its random numbers.
     pub seed: u64,
-    /// When it was made by the system's clock, in microseconds since 1970: for the order in which a session is shown, and for no verdict.
+    /// The time of day then, in microseconds since 1970. It orders what is shown of a session; no verdict uses it.
     pub wall: u64,
 }
 
-/// Its bytes. Only want of memory refuses it.
+/// Returns the 55 bytes that a record begins with. A member that was made past 2^48 gets bytes that [`read_record`](crate::read_record) refuses. Fails only if out
+/// of memory.
 pub fn beginning_bytes(alloc: Global, beginning: &Beginning) -> Result<Vec<u8>, AllocError>
     ensures { IfOk result (λ bytes. bytes.items ≡ beginning_text beginning.now) }
 {

@@ -18,25 +18,35 @@ pub const LONGEST_PAYLOAD: usize = 0xffff_ffff;
 /// The kinds of frames. None is 0, so a hole in a file is no frame.
 pub const DREW: u8 = 1;
 
+/// A datagram was heard and accepted.
 pub const HEARD: u8 = 2;
 
+/// A tick did something.
 pub const TICKED: u8 = 3;
 
+/// A page was shown.
 pub const SHOWED: u8 = 4;
 
+/// The member was asked to leave.
 pub const ASKED_LEAVE: u8 = 5;
 
+/// A page slot gave a message.
 pub const GAVE: u8 = 6;
 
+/// A page worker took a message.
 pub const TOOK: u8 = 7;
 
+/// The member ended.
 pub const ENDED: u8 = 8;
 
 /// The kinds of messages.
 pub const OPEN: u8 = 1;
 
+/// A drawop.
 pub const DRAW: u8 = 2;
 
+/// A member that left.
 pub const LEFT: u8 = 3;
 
+/// The end of a page feed.
 pub const CLOSE: u8 = 4;

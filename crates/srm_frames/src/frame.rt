@@ -1,4 +1,4 @@
-//! Frames, of which a record has one for each call.
+//! Frames: a record has one for each line.
 
 ghost use Rattle.std.specs.Prelude.{◌≡◌, ◌≤◌, ◌++◌, length, take, drop, OnOk};
 ghost use Rattle.srm_frames.specs.Frames.{sealed, frame_fields, frame};
@@ -7,15 +7,21 @@ use crate::checksum::crc_32;
 use crate::format::LONGEST_PAYLOAD;
 use std::alloc::AllocError;
 
-/// What kind of call it is, at which moment in microseconds, and what more there is to it.
+/// A line of a record as bytes: its kind, its moment, and its payload.
 #[derive(Clone, Copy, Debug)]
 pub struct Frame<'a> {
+    /// The kind, 1 to 8.
     pub kind: u8,
+    /// The moment, in microseconds, at most 2^48.
     pub moment: u64,
+    /// The payload.
     pub payload: &'a [u8],
 }
 
-/// Appends a frame to bytes. Refused is want of memory, and a payload of 2^32 bytes or more; what stands behind the bytes then is open.
+/// Appends a frame to bytes: its kind, 1 to 8; its moment in microseconds, at most 2^48; its payload; and the checksum. It checks neither kind nor moment:
+/// [`read_record`](crate::read_record) refuses others.
+///
+/// Fails with `AllocError` if out of memory, or if the payload has 2^32 bytes or more. `out` then begins with what it had; what follows is unspecified.
 pub fn put_frame(out: &mut Vec<u8>, kind: u8, moment: u64, payload: &[u8]) -> Result<(), AllocError>
     ensures { OnOk result (out.new.items ≡ out.old.items ++ frame kind moment payload.now) }
 {

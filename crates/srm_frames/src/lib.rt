@@ -1,5 +1,8 @@
 //! A member's record as bytes: its lines as frames, read and written.
 //!
+//! [`read_record`] returns a [`Record`]: its [`Beginning`], its [`Line`]s, each a [`Call`] at a moment, and its [`RecordEnd`]. [`beginning_bytes`] and then
+//! [`put_line`] write one; [`put_frame`] and [`crc_32`] are their parts.
+//!
 //! ```
 //! let record = read_record(alloc, bytes)?;
 //! for line in record.lines.as_slice() {
@@ -9,7 +12,7 @@
 //!
 //! A record is how a member began, and then a frame for each line: kind, moment, payload and checksum. `docs/RECORDS.md` has it byte by byte. A record may be cut at any byte: it is read up to its cut.
 //!
-//! [`RecordFault`] says why bytes are no record.
+//! **Errors.** [`read_record`] returns a [`RecordFault`] for bytes that are no record. [`put_line`] and [`beginning_bytes`] fail if out of memory.
 #![tactic(auto)]
 
 mod beginning;

@@ -26,20 +26,21 @@ impl<'a> Model for Reader<'a> {
 }
 
 impl<'a> Reader<'a> {
+    /// Makes a reader of bytes.
     pub fn new(bytes: &'a [u8]) -> Reader<'a>
         ensures { result ≡ bytes.now }
     {
         Reader { rest: bytes }
     }
 
-    /// Another reader of the bytes that are still to be read.
+    /// Returns another reader of the bytes that are still to be read.
     pub fn again(&self) -> Reader<'a>
         ensures { result ≡ self.now }
     {
         Reader { rest: self.rest }
     }
 
-    /// What is still to be read.
+    /// Returns what is still to be read.
     pub fn rest(&self) -> &'a [u8]
         ensures { result.now ≡ self.now }
     {
@@ -57,6 +58,7 @@ impl<'a> Reader<'a> {
         Some(*prefix)
     }
 
+    /// Reads one byte; `None` if none is left.
     pub fn u8(&mut self) -> Option<u8>
         ensures { IsFound result self.new (number_at w8 self.old) }
     {
@@ -71,6 +73,7 @@ impl<'a> Reader<'a> {
         Some(u16::from_be_bytes(prefix))
     }
 
+    /// Reads a number of four bytes; `None` if fewer are left.
     pub fn u32(&mut self) -> Option<u32>
         ensures { IsFound result self.new (number_at w32 self.old) }
     {
@@ -78,6 +81,7 @@ impl<'a> Reader<'a> {
         Some(u32::from_be_bytes(prefix))
     }
 
+    /// Reads a number of eight bytes; `None` if fewer are left.
     pub fn u64(&mut self) -> Option<u64>
         ensures { IsFound result self.new (number_at w64 self.old) }
     {
@@ -85,6 +89,7 @@ impl<'a> Reader<'a> {
         Some(u64::from_be_bytes(prefix))
     }
 
+    /// Reads a moment in microseconds; `None` past 2^48.
     #[tactic(auto, unfolding(srm_codec::specs::Judging::moment_at))]
     pub fn moment(&mut self) -> Option<u64>
         ensures { IsFound result self.new (moment_at self.old) }
@@ -97,6 +102,7 @@ impl<'a> Reader<'a> {
         }
     }
 
+    /// Reads a member; `None` from 32 on.
     #[tactic(auto, unfolding(srm_codec::specs::Judging::member_at))]
     pub fn member(&mut self) -> Option<Member>
         ensures { IsFound result self.new (member_at self.old) }
@@ -105,7 +111,7 @@ impl<'a> Reader<'a> {
         Member::new(number)
     }
 
-    /// The number of a slot, 0 to 7.
+    /// Reads a page slot, 0 to 7.
     #[tactic(auto, unfolding(crate::specs::Readings::slot_at))]
     pub fn slot(&mut self) -> Option<u8>
         ensures { IsFound result self.new (slot_at self.old) }
@@ -114,6 +120,7 @@ impl<'a> Reader<'a> {
         if number < PAGES { Some(number) } else { None }
     }
 
+    /// Reads a page; `None` for a creator from 32 on.
     #[tactic(auto, unfolding(srm_codec::specs::Judging::page_at))]
     pub fn page(&mut self) -> Option<Page>
         ensures { IsFound result self.new (page_at self.old) }
@@ -132,6 +139,7 @@ impl<'a> Reader<'a> {
         Some(Stream { source, page })
     }
 
+    /// Reads a name; `None` unless each part is in its range.
     #[tactic(auto, unfolding(srm_codec::specs::Judging::number_in_stream_at, srm_codec::specs::Judging::name_at))]
     pub fn name(&mut self) -> Option<Name>
         ensures { IsFound result self.new (name_at None None self.old) }
@@ -141,7 +149,7 @@ impl<'a> Reader<'a> {
         stream.at(number)
     }
 
-    /// So many bytes.
+    /// Reads so many bytes.
     #[tactic(auto, unfolding(srm_codec::specs::Judging::prefix_at))]
     pub fn bytes(&mut self, count: usize) -> Option<&'a [u8]>
         ensures { IsFoundBy (λ bytes. bytes.now) result self.new (prefix_at count self.old) }
@@ -154,7 +162,7 @@ impl<'a> Reader<'a> {
         Some(bytes)
     }
 
-    /// The next frame. Where there is none, the reader stays where it is.
+    /// Reads the next frame. Where there is none, the reader stays where it is.
     pub fn next_frame(&mut self) -> Option<Frame<'a>>
         ensures found { IfSome result (λ f. frame_at self.old ≡ Ok (parts f.kind f.moment f.payload.now, self.new)) }
         ensures none { result ≡ None → (self.new ≡ self.old) × IsErr (frame_at self.old) }

@@ -17,21 +17,25 @@ use std::alloc::{AllocError, Global};
 pub enum RecordEnd {
     /// As the member did.
     Whole,
-    /// Before the member did: behind its last line stand so many bytes, at the front of which there is no frame.
+    /// Before the member did. So many bytes, 0 or more, follow the last frame that is whole.
     Cut(usize),
 }
 
-/// How a member began, and what it was handed, call by call.
+/// How a member began, and what it was given, call by call.
 #[derive(Debug, Drop)]
 pub struct Record {
+    /// How the member began.
     pub beginning: Beginning,
+    /// The lines, in order. The last one is `Ended` if the record is whole.
     pub lines: Vec<Line>,
+    /// Whether the record is whole, or where it was cut.
     pub end: RecordEnd,
 }
 
 /// Returns the record that bytes are, up to where it was cut: where the next frame isn't there whole, or doesn't have its checksum.
 ///
-/// Fails with the first thing in the bytes that no record has; `Memory` is returned only if out of memory. Costs a step for each byte.
+/// Fails with the first fault of the bytes, in this order: [`RecordFault::Magic`], [`RecordFault::Version`], [`RecordFault::Settings`], and [`RecordFault::Frame`]
+/// for the first frame that is whole but no frame of a record; and with [`RecordFault::Memory`] if out of memory. Costs a step for each byte.
 pub fn read_record(alloc: Global, bytes: &[u8]) -> Result<Record, RecordFault>
     // What is read is in the bytes, and a fault is one that they have.
     ensures judged { IsJudged bytes.now result }

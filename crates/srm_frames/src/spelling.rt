@@ -10,7 +10,7 @@ use crate::line::{Call, Line};
 use crate::message::{put_message, put_page};
 use std::alloc::{AllocError, Global};
 
-/// Appends the frames of lines to bytes. Fails as [`put_line`] does.
+/// Appends the frames of lines to bytes, in order. Fails as [`put_line`] does: the frames of earlier lines are there then.
 pub fn put_lines(alloc: Global, out: &mut Vec<u8>, lines: &[Line]) -> Result<(), AllocError>
     ensures { OnOk result (out.new.items ≡ out.old.items ++ lines_text lines.now) }
 {
@@ -20,8 +20,9 @@ pub fn put_lines(alloc: Global, out: &mut Vec<u8>, lines: &[Line]) -> Result<(),
     Ok(())
 }
 
-/// Appends the frame of a line to bytes. Fails if out of memory, or if the payload would have 2^32 bytes or more; what stands behind the
-/// bytes then is open.
+/// Appends the frame of a line to bytes. A line with a moment past 2^48 or a page slot past 7 is written, but [`read_record`](crate::read_record) refuses it.
+///
+/// Fails with `AllocError` if out of memory, or if the payload would have 2^32 bytes or more. `out` then begins with what it had; what follows is unspecified.
 #[tactic(auto, unfolding(crate::specs::Lines::line_text))]
 pub fn put_line(alloc: Global, out: &mut Vec<u8>, line: &Line) -> Result<(), AllocError>
     ensures { OnOk result (out.new.items ≡ out.old.items ++ line_text line.now) }

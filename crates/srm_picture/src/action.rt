@@ -30,9 +30,11 @@ pub enum LocalActionKind {
 /// A notch on a lifeline.
 #[derive(Clone, Copy, Debug, PartialEq, Eq)]
 pub struct LocalAction {
+    /// The entry that it stands for.
     pub at: Point,
     /// How many datagrams its entry sent. The notch is drawn below these.
     pub nth: usize,
+    /// What it stands for.
     pub kind: LocalActionKind,
 }
 

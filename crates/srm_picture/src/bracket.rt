@@ -18,7 +18,9 @@ pub enum TimerEnd {
 /// The entry that ends a timer, of the same member, by its place in the trace from 0; and how it ends it.
 #[derive(Clone, Copy, Debug, PartialEq, Eq)]
 pub struct BracketEnd {
+    /// The entry that ends the timer, by its place in the trace from 0.
     pub entry: usize,
+    /// How it ends the timer.
     pub ending: TimerEnd,
 }
 
@@ -29,7 +31,9 @@ pub struct Bracket {
     pub from: Point,
     /// Its place from 0 among the timers that this entry set.
     pub nth: usize,
+    /// Whether it is a request timer or a repair timer.
     pub kind: ArmKind,
+    /// The drawop that it is about.
     pub name: Name,
     /// Its end; `None` if it still runs after the last entry.
     pub end: Option<BracketEnd>,

@@ -46,6 +46,7 @@ pub(crate) struct Layout {
 }
 
 impl Layout {
+    /// Makes the layout of a picture. Fails only if out of memory.
     pub fn of(
         alloc: Global,
         subject: &Subject<'_>,
@@ -72,7 +73,7 @@ impl Layout {
             .saturating_add(member.saturating_mul(self.pitch()))
     }
 
-    /// Whether a member's lifeline is the last one, and not the only one.
+    /// Returns whether a member's lifeline is the last one, and not the only one.
     pub fn is_last(&self, member: Member) -> bool {
         let place = u64::from(member.number());
         place > 0 && place.saturating_add(1) >= self.members
@@ -97,12 +98,14 @@ impl Layout {
             .saturating_sub(column.saturating_mul(COLUMN))
     }
 
+    /// Returns the width of the drawing.
     pub fn width(&self) -> u64 {
         self.x_at(self.members.saturating_sub(1))
             .saturating_add(LABELS)
             .max(LEAST_WIDTH)
     }
 
+    /// Returns the height of the drawing.
     pub fn height(&self) -> u64 {
         self.bottom().saturating_add(FOOT)
     }

@@ -8,6 +8,9 @@
 //! [`Picture`] says what to draw: arrows, brackets for timers, and local actions, each with the entries that it is of. [`write_svg`]
 //! draws it. The caller says by [`Arrival`] which datagram came in an entry, since an entry has the datagram but not its number.
 //!
+//! A picture has [`Arrow`]s, each from a [`Launch`] to an [`ArrowEnd`]; [`Bracket`]s, each perhaps with a [`BracketEnd`]; and [`LocalAction`]s. Each is at a
+//! [`Point`]. The law is [`entries_decide`].
+//!
 //! **Errors.** [`Picture::of`] and [`escaped`] fail only if out of memory; [`write_svg`] also if the output does.
 #![tactic(auto)]
 

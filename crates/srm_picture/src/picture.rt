@@ -16,7 +16,7 @@ use std::alloc::{AllocError, Global};
 pub struct Picture {
     /// In order of datagram, and then of arrival.
     pub arrows: Vec<Arrow>,
-    /// In the order in which the timers were set.
+    /// In the order of setting.
     pub brackets: Vec<Bracket>,
     /// In the order of the entries.
     pub actions: Vec<LocalAction>,

@@ -37,7 +37,7 @@ impl Model for Played {
     ghost invariant = { IsPlayed };
 }
 
-/// Plays a script to its end.
+/// Plays a script to its end. The caller shows that it is as [`read_script`](srm_script::read_script) returns it.
 ///
 /// Fails with [`PictureFault::TooManyEvents`] if it has more than [`MOST_EVENTS`] events, before it plays any, and if out of memory.
 pub fn play(alloc: Global, script: Script) -> Result<Played, PictureFault>

@@ -7,6 +7,9 @@
 //! [`read_script`] reads a script into the settings and events that a world takes, and [`run_event`] plays one event and prints it.
 //! `docs/SCRIPTS.md` has the language.
 //!
+//! [`read_script`] returns a [`Script`], [`read_script_in`] one of a [`Dialect`]. [`EntryPrinter`], [`PrintedTake`] and [`PrintedGone`] print lines. The statuses of
+//! the program are [`FAILED`], [`WRONG_USAGE`], [`WIRE_FAILED`] and [`RAN_OUT`].
+//!
 //! **Errors.** A bad line, before any event is played; a script of more than 1,000,000 bytes; input or output that fails; out of memory.
 //! [`ScriptFault`] has the text and the status of each.
 #![tactic(auto)]

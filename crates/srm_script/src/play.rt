@@ -27,7 +27,7 @@ pub fn run_script<I: Read, O: Write, E: Write>(
     run_script_in(alloc, Dialect::Plain, reader, out, err)
 }
 
-/// Reads a script that may have the lines of this dialect, and does what [`run_script`] does.
+/// Reads a script that may have the lines of this dialect, and does what [`run_script`] does. Returns the same statuses.
 pub fn run_script_in<I: Read, O: Write, E: Write>(
     alloc: Global,
     dialect: Dialect,

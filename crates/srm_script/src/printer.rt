@@ -29,8 +29,8 @@ impl EntryPrinter {
         EntryPrinter { timers, sent: 0 }
     }
 
-    /// Prints the lines of an entry. It numbers the datagrams that the entry sent in order, on from those printed before. They can be
-    /// encoded, as those of every run can. Fails only if the output does.
+    /// Prints the lines of an entry. It numbers the datagrams that the entry sent in order, on from those printed before. The caller shows that each has a spelling,
+    /// as those of every run have. Fails only if the output does.
     pub fn print_entry<W: Write>(&mut self, out: &mut W, entry: &Entry) -> io::Result<()>
         requires { AllByRecursion IsSpellable entry.now.effects.outs }
     {

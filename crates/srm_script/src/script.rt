@@ -24,10 +24,13 @@ use std::alloc::Global;
 /// What a script says: the settings and the random numbers of each member, 1 to 32 of them, and the events in order.
 #[derive(Drop)]
 pub struct Script {
+    /// The settings of the members, in order of number.
     pub configs: Vec<Config>,
+    /// The random numbers of the members, in the same order.
     pub words: Vec<Listed>,
     /// Whether timers are printed.
     pub timers: bool,
+    /// What happens, in order.
     pub events: Vec<Event>,
 }
 
@@ -42,7 +45,7 @@ pub fn read_script(alloc: Global, text: &[u8]) -> Result<Script, ScriptFault>
     read_script_in(alloc, Dialect::Plain, text)
 }
 
-/// Reads a script that may have the lines of this dialect, as [`read_script`] does.
+/// Reads a script that may have the lines of this dialect, and else does what [`read_script`] does, with the same faults.
 pub fn read_script_in(alloc: Global, dialect: Dialect, text: &[u8]) -> Result<Script, ScriptFault>
     ensures roster { IfOk result (λ script. IsRoster (started script.configs.items)) }
     ensures words { IfOk result (λ script. length script.words.items ≡ length script.configs.items) }

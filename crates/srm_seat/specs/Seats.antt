@@ -8,7 +8,7 @@ use Rattle.srm_entries.specs.Configs.{Config}
 use Rattle.srm_agent.specs.Contents.{AgentContent}
 use Rattle.srm_agent.specs.Fits.{AgentFits}
 
--- an agent that chooses its waits by the words of a seed
+-- an agent that chooses its waits by the random numbers of a seed
 abbrev pub SeededAgent : Type 0
 SeededAgent = AgentContent Lcg
 
@@ -18,7 +18,7 @@ pub record SeatContent : Type 0 where
   pub repairs : List FullName
   pub datagrams : List Out
 
--- the agent has these settings and the words of this seed, did nothing yet, and left nothing
+-- the agent has these settings and the random numbers of this seed, did nothing yet, and left nothing
 pub record IsNewSeat (c : Config) (now seed : ℕ) (s : SeatContent) : Type 0 where
   pub fits : AgentFits c now [] s.agent
   pub words : s.agent.words ≡ words_of seed

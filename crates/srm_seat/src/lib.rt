@@ -14,6 +14,8 @@
 //!
 //! **Errors.** A seat refuses what its agent refuses, with the same faults. A room that is too short for a datagram gets nothing, and the
 //! datagram stays the next.
+//!
+//! [`Seat::tick`] returns [`TickCounts`], [`Seat::next_datagram`] a [`Handover`]. [`lay_over`] copies bytes into a room.
 #![tactic(auto)]
 
 mod handle;

@@ -48,6 +48,7 @@ pub struct TickCounts {
     pub repairs: usize,
     /// How many datagrams are to be sent.
     pub datagrams: usize,
+    /// Whether the member is active, leaving or gone after the tick.
     pub state: AgentState,
 }
 
@@ -90,7 +91,7 @@ impl Seat {
         self.agent.draw(page, body, now)
     }
 
-    /// Shows a page, as [`Agent::show`] does.
+    /// Shows a page, as [`Agent::show`] does, with its faults.
     pub fn show(&mut self, page: Page, now: u64) -> Result<(), AgentFault>
         requires { now ≤ LATEST_MOMENT }
         ensures { Shows now page self.old self.new result }
@@ -98,7 +99,7 @@ impl Seat {
         self.agent.show(page, now)
     }
 
-    /// Begins to leave, as [`Agent::leave`] does.
+    /// Begins to leave, as [`Agent::leave`] does, with its faults.
     pub fn leave(&mut self, now: u64) -> Result<(), AgentFault>
         requires { now ≤ LATEST_MOMENT }
         ensures { Leaves now self.old self.new result }
@@ -106,7 +107,7 @@ impl Seat {
         self.agent.leave(now)
     }
 
-    /// Hears bytes that came, as [`Agent::hear`] does.
+    /// Hears bytes that came, as [`Agent::hear`] does. Fails only with [`AgentFault::Memory`].
     pub fn hear(&mut self, bytes: &[u8], now: u64) -> Result<Heard, AgentFault>
         requires { now ≤ LATEST_MOMENT }
         ensures { HearsBytes now bytes.now self.old self.new result }
@@ -160,7 +161,7 @@ impl Seat {
         Handover::Copied(length)
     }
 
-    /// Takes the next message of a page slot, 0 to 7, as [`Agent::give`] does.
+    /// Takes the next message of a page slot, 0 to 7, as [`Agent::give`] does. Fails only with [`AgentFault::Memory`], and then the message is still to come.
     pub fn give(&mut self, slot: u8) -> Result<Option<PageMsg>, AgentFault>
         requires { slot < PAGES }
         ensures { Gives slot self.old self.new result }
@@ -168,14 +169,14 @@ impl Seat {
         self.agent.give(slot)
     }
 
-    /// Returns the next moment at which a tick does something, as [`Agent::next_due`] does.
+    /// Returns when a tick next does something, as [`Agent::next_due`] does.
     pub fn next_due(&self) -> Option<u64>
         ensures { NextDue self.now.agent result }
     {
         self.agent.next_due()
     }
 
-    /// Returns the page of its own that the member would begin next, as [`Agent::new_page`] does.
+    /// Returns the page that the member would begin next, as [`Agent::new_page`] does.
     pub fn new_page(&self) -> Option<Page>
         ensures { IsPageToCome self.now.agent result }
     {
@@ -197,14 +198,14 @@ impl Seat {
         self.agent.distance(member)
     }
 
-    /// Whether a body of so many bytes, drawn at this moment, would wait for no other, as [`Agent::admits_draw`] says.
+    /// Returns whether the rate would let a body of so many bytes, drawn at `now`, go at once, as [`Agent::admits_draw`] does.
     pub fn admits_draw(&self, length: usize, now: u64) -> bool
         ensures { DrawAdmitted length now self.now.agent result }
     {
         self.agent.admits_draw(length, now)
     }
 
-    /// Returns from which moment on it would wait for no other, as [`Agent::admits_draw_from`] does.
+    /// Returns when a body of so many bytes would go at once, as [`Agent::admits_draw_from`] does.
     pub fn admits_draw_from(&self, length: usize) -> Option<u64>
         ensures { DrawAdmittedFrom length self.now.agent result }
     {

@@ -64,11 +64,14 @@ impl fmt::Display for PrintedAnswer<'_> {
     }
 }
 
-/// Displays the line for a take, without its end: the member, the slot and the message that its worker took, or `none`.
+/// Displays the line for a take, without its end: the member, the page slot, and the message that its worker took, or `none`.
 #[derive(Drop)]
 pub struct PrintedTake<'a> {
+    /// The member whose worker took it.
     pub member: Member,
+    /// The page slot of the worker, 0 to 7.
     pub slot: usize,
+    /// What the worker took. `None` is displayed as `none`.
     pub message: Option<&'a PageMsg>,
 }
 

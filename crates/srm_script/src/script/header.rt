@@ -131,7 +131,7 @@ impl Header {
         self.last = Kind::Event;
     }
 
-    /// Whether timers are printed.
+    /// Returns whether timers are printed.
     pub fn has_timers(&self) -> bool {
         self.timers
     }

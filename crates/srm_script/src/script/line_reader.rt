@@ -11,7 +11,9 @@ use std::alloc::AllocError;
 /// Why a line can't be read.
 #[derive(Clone, Copy, Debug, PartialEq, Eq)]
 pub enum LineFault {
+    /// The line is none of a script.
     Bad,
+    /// Out of memory.
     Memory,
 }
 
