@@ -1,0 +1,5 @@
+mod Snocs
+mod GoingOn
+mod Gathered
+mod Elements
+mod Filing

@@ -1,0 +1,28 @@
+-- The lines behind a member's calls: what its page workers took, and that this is all.
+use Rattle.std.specs.Prelude.{ℕ, List, map, Vec}
+use Rattle.std.specs.List.{flat_map, enumerate_from}
+use Rattle.std.specs.Global.{Global}
+use Rattle.srm_names.specs.declared.page_msg.PageMsg.{PageMsg}
+use Rattle.srm_frames.specs.declared.line.Line.{Line}
+use Rattle.srm_frames.specs.declared.line.Call.TheVariants.{Took, Ended}
+
+-- what was taken in each slot
+abbrev pub taken_in : List (Vec PageMsg Global) → List (List PageMsg)
+taken_in lists = map (λ list. list.items) lists
+
+abbrev pub take_at : ℕ → ℕ → PageMsg → Line
+take_at last slot message = record { moment = last; call = Took slot message }
+
+-- what was taken in a slot, in order, at the last moment in the record
+abbrev pub slot_lines : ℕ → ℕ → List PageMsg → List Line
+slot_lines last slot messages = map (take_at last slot) messages
+
+abbrev pub listed_lines : ℕ → ℕ × List PageMsg → List Line
+listed_lines last listed = slot_lines last listed.0 listed.1
+
+-- what was taken, slot by slot
+abbrev pub takes_at : ℕ → List (List PageMsg) → List Line
+takes_at last lists = flat_map (listed_lines last) (enumerate_from 0 lists)
+
+abbrev pub end_at : ℕ → Line
+end_at last = record { moment = last; call = Ended }

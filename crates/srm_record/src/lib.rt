@@ -1,0 +1,28 @@
+//! A member's record: its calls, written to a file as they are made, and made anew.
+//!
+//! ```
+//! // The past of a recorder or a node, whose calls go to a file.
+//! let past = Written::new(alloc, Some(file), beginning, Forgotten::new());
+//! // Later, from the bytes of the file:
+//! let record = read_record(alloc, bytes)?;
+//! let replayed = retell(alloc, &record)?;
+//! ```
+//!
+//! A record says what a member was handed, call by call, and what its page workers took. It says nothing of what the member did. [`Written`] writes it: a call that sends is in the file before any of its
+//! datagrams leaves. [`retell`] makes the calls anew by a [`Recorder`](srm_world::Recorder), and returns the journal only if the record is exactly the record of that journal.
+//! [`srm_frames`] has the bytes.
+//!
+//! Calls that did nothing are left out: what was refused, ignored or noise, ticks at which nothing was due, and gives that found nothing.
+//!
+//! Where a file fails, [`Written`] goes on without it, and says so at its end.
+#![tactic(auto)]
+
+mod record_file;
+mod replaying;
+mod taking;
+mod telling;
+mod written;
+
+pub use replaying::{Replayed, retell};
+pub use telling::acts;
+pub use written::{Ended, Written};

@@ -1,0 +1,248 @@
+//! What writes a record to a file.
+
+ghost use Rattle.std.specs.Prelude.{◌≡◌, ◌≤◌, ◌++◌, ◌∷◌, List, [], true, length, take, IfOk, OnOk, OnErr};
+ghost use Rattle.std.specs.Io.KnownBytes.{Appends};
+ghost use Rattle.srm_names.specs.declared.limits.TheConstants.{PAGES};
+ghost use Rattle.srm_frames.specs.Beginnings.{beginning_text};
+ghost use Rattle.srm_entries.specs.declared.entry.Entry.{Entry as AnEntry};
+ghost use Rattle.srm_record.specs.Calls.{last_after};
+ghost use Rattle.srm_frames.specs.Lines.{lines_text};
+ghost use Rattle.srm_record.specs.Records.{whole_record};
+ghost use Rattle.srm_record.specs.Takes.{taken_in, takes_at, end_at};
+ghost use Rattle.srm_record.specs.Writing.{AppendsAllBut, AppendsFront, HasText, HasRecord, Adds, Writes, WritesIf, Notes, call_text, sends};
+
+use crate::taking::{end_at, takes_at};
+use crate::telling::{last_after, line_of};
+use srm_entries::Entry;
+use srm_frames::{Beginning, beginning_bytes, put_line, put_lines};
+use srm_names::PageMsg;
+use std::alloc::{AllocError, Global};
+use std::io;
+use std::io::{ErrorKind, Write};
+use std::marker::Model;
+use std::snapshot::Snapshot;
+
+/// So many bytes wait at most before they are written.
+const MOST_WAITING: usize = 65_536;
+
+/// So long they wait at most, in microseconds, if another call comes.
+const LONGEST_WAIT: u64 = 200_000;
+
+/// A file that a record is written to.
+#[derive(Drop)]
+pub struct RecordFile<F: Write + Drop> {
+    alloc: Global,
+    first: Snapshot<F>,
+    file: F,
+    beginning: Beginning,
+    waiting: Vec<u8>,
+    // The moment of the last frame, and that at which all was written.
+    last: u64,
+    written_at: u64,
+    failed: bool,
+}
+
+impl<F: Write + Drop> Model for RecordFile<F> {
+    ghost use Rattle.srm_record.specs.Writing.{FileView};
+
+    ghost Value = { FileView };
+
+    ghost view = { λ f. record { beginning = f.beginning; first = F.contents f.first.value; now = F.contents f.file; waiting = f.waiting.items; last = f.last; failed = f.failed } };
+}
+
+impl<F: Write + Drop> RecordFile<F> {
+    /// The file of a member that did nothing yet. It has what the record begins with, unless it failed or there was no memory for that.
+    pub fn new(alloc: Global, file: F, beginning: Beginning) -> RecordFile<F>
+        ensures beginning { result.beginning ≡ beginning }
+        ensures first { result.first ≡ F.contents file }
+        ensures record { HasRecord result [] }
+    {
+        let mut made = RecordFile::unwritten(alloc, file, beginning);
+        made.write();
+        made
+    }
+
+    // The same while all that the record begins with waits.
+    fn unwritten(alloc: Global, file: F, beginning: Beginning) -> RecordFile<F>
+        ensures beginning { result.beginning ≡ beginning }
+        ensures first { result.first ≡ F.contents file }
+        ensures last { result.last ≡ beginning.made }
+        ensures text { HasText result (beginning_text beginning) }
+    {
+        match beginning_bytes(alloc, &beginning) {
+            Ok(waiting) => RecordFile::with(alloc, file, beginning, waiting, false),
+            Err(_) => RecordFile::with(alloc, file, beginning, Vec::new(alloc), true),
+        }
+    }
+
+    fn with(
+        alloc: Global,
+        file: F,
+        beginning: Beginning,
+        waiting: Vec<u8>,
+        failed: bool,
+    ) -> RecordFile<F>
+        ensures { result ≡ record { beginning = beginning; first = F.contents file; now = F.contents file; waiting = waiting.items; last = beginning.made; failed = failed } }
+    {
+        let first = Snapshot::of(&file);
+        let made = beginning.made;
+        RecordFile {
+            alloc,
+            first,
+            file,
+            beginning,
+            waiting,
+            last: made,
+            written_at: made,
+            failed,
+        }
+    }
+
+    /// Notes a call, and writes what waits where the call sends, where much waits, or where it waited for long. Where memory runs out for it, the file counts as
+    /// failed.
+    pub fn note(&mut self, entry: &Entry)
+        ensures { Notes self.old self.new entry.now }
+    {
+        self.put(entry);
+        self.write_if_due(entry);
+        self.move_on(entry);
+    }
+
+    // The call's moment is the last one in the record, if it has the call.
+    fn move_on(&mut self, entry: &Entry)
+        ensures { self.new ≡ record self.old { last = last_after self.old.last entry.now } }
+    {
+        self.last = last_after(self.last, entry);
+    }
+
+    #[tactic(auto, using(crate::proofs::Filing::puts_none, crate::proofs::Filing::puts, crate::proofs::Filing::breaks))]
+    fn put(&mut self, entry: &Entry)
+        ensures { Adds self.old self.new (call_text self.old.beginning.config.session entry.now) }
+    {
+        if self.failed {
+            return;
+        }
+        let session = self.beginning.config.session();
+        match put_call(self.alloc, &mut self.waiting, session, entry) {
+            Ok(()) => {}
+            Err(_) => self.failed = true,
+        }
+    }
+
+    // Writes what waits where a call sends, where much waits, or where it waited for long.
+    #[tactic(auto, using(crate::proofs::Filing::writes_now, crate::proofs::Filing::writes_later))]
+    fn write_if_due(&mut self, entry: &Entry)
+        ensures { WritesIf self.old self.new entry.now }
+    {
+        if !self.is_due(entry) {
+            return;
+        }
+        self.written_at = entry.moment;
+        self.write();
+    }
+
+    fn is_due(&self, entry: &Entry) -> bool
+        ensures { sends entry.now ≡ true → result ≡ true }
+    {
+        !entry.effects.outs.as_slice().is_empty()
+            || self.waiting.len() >= MOST_WAITING
+            || entry.moment.saturating_sub(self.written_at) >= LONGEST_WAIT
+    }
+
+    /// Writes what waits, unless something failed before.
+    #[tactic(auto, using(crate::proofs::Filing::writes_none, crate::proofs::Filing::writes_all, crate::proofs::Filing::writes_front))]
+    pub fn write(&mut self)
+        ensures { Writes self.old self.new }
+    {
+        if self.failed {
+            return;
+        }
+        match write_bytes(&mut self.file, self.waiting.as_slice()) {
+            Ok(()) => self.waiting.clear(),
+            Err(_) => self.failed = true,
+        }
+    }
+
+    /// Writes what page workers took, slot by slot, and that this is all. Returns whether the file has all, and the file.
+    #[tactic(auto, using(crate::proofs::Filing::ended_whole, crate::proofs::Filing::ended_front))]
+    pub fn end(self, taken: &[Vec<PageMsg>]) -> (bool, F)
+        requires { length taken.now ≤ PAGES }
+        ensures whole { result.0 ≡ true → (es : List AnEntry) → HasRecord self es → Appends self.first (F.contents result.1) (whole_record self.beginning es (taken_in taken.now)) }
+        ensures front { (es : List AnEntry) → HasRecord self es → AppendsFront self.first (F.contents result.1) (whole_record self.beginning es (taken_in taken.now)) }
+    {
+        let mut file = self;
+        file.put_end(taken);
+        file.write();
+        (!file.failed, file.file)
+    }
+
+    #[tactic(auto, using(crate::proofs::Filing::puts_none, crate::proofs::Filing::puts, crate::proofs::Filing::breaks))]
+    fn put_end(&mut self, taken: &[Vec<PageMsg>])
+        requires { length taken.now ≤ PAGES }
+        ensures { Adds self.old self.new (lines_text (takes_at self.old.last (taken_in taken.now) ++ end_at self.old.last ∷ [])) }
+    {
+        if self.failed {
+            return;
+        }
+        match put_all(self.alloc, &mut self.waiting, self.last, taken) {
+            Ok(()) => {}
+            Err(_) => self.failed = true,
+        }
+    }
+}
+
+// Appends the frame of a call to bytes, if it acts.
+fn put_call(alloc: Global, out: &mut Vec<u8>, session: u32, entry: &Entry) -> Result<(), AllocError>
+    ensures { OnOk result (out.new.items ≡ out.old.items ++ call_text session entry.now) }
+{
+    match line_of(alloc, session, entry)? {
+        Some(line) => put_line(alloc, out, &line),
+        None => Ok(()),
+    }
+}
+
+// Appends the frames of what page workers took, slot by slot, and of the end.
+fn put_all(
+    alloc: Global,
+    out: &mut Vec<u8>,
+    last: u64,
+    taken: &[Vec<PageMsg>],
+) -> Result<(), AllocError>
+    requires { length taken.now ≤ PAGES }
+    ensures { OnOk result (out.new.items ≡ out.old.items ++ lines_text (takes_at last (taken_in taken.now) ++ end_at last ∷ [])) }
+{
+    let mut lines = takes_at(alloc, last, taken)?;
+    lines.push(end_at(last)).map_err(AllocError::from)?;
+    put_lines(alloc, out, lines.as_slice())
+}
+
+/// Writes bytes until all are written or the file refuses more.
+#[tactic(auto, using(crate::proofs::Gathered::written_more, crate::proofs::Gathered::front_still))]
+fn write_bytes<O: Write>(out: &mut O, bytes: &[u8]) -> io::Result<()>
+    ensures printed { OnOk result (AppendsAllBut (O.contents out.old) (O.contents out.new) bytes.now []) }
+    ensures cut { OnErr result (AppendsFront (O.contents out.old) (O.contents out.new) bytes.now) }
+{
+    let mut rest = bytes;
+    for _ in 0..u64::MAX {
+        if rest.is_empty() {
+            return Ok(());
+        }
+        let count = write_some(out, rest)?;
+        rest = rest.split_at(count).1;
+    }
+    Err(ErrorKind::Interrupted.into())
+}
+
+/// Writes some of the bytes, and answers how many: none where the call was interrupted.
+#[tactic(auto, using(crate::proofs::Gathered::kept_is_none))]
+fn write_some<O: Write>(out: &mut O, bytes: &[u8]) -> io::Result<usize>
+    ensures bound { IfOk result (λ count. count ≤ length bytes.now) }
+    ensures written { IfOk result (λ count. Appends (O.contents out.old) (O.contents out.new) (take count bytes.now)) }
+    ensures none { OnErr result (Appends (O.contents out.old) (O.contents out.new) []) }
+{
+    match out.write(bytes) {
+        Ok(0) => Err(ErrorKind::WriteZero.into()),
+        Err(error) if error.kind() == ErrorKind::Interrupted => Ok(0),
+        written => written,
+    }
+}

@@ -1,0 +1,257 @@
+//! A record's calls, made anew.
+
+ghost use Rattle.std.specs.Prelude.{◌≡◌, ◌≤◌, ◌++◌, ◌∷◌, [], true, vec_len, IfOk, IfSome};
+ghost use Rattle.rand_pcg.specs.Lcg.{Lcg};
+ghost use Rattle.rand_pcg.specs.Pcg.{pcg64};
+ghost use Rattle.srm_names.specs.declared.limits.TheConstants.{LATEST_MOMENT, PAGES};
+ghost use Rattle.srm_timers.specs.Seeds.{words_of};
+ghost use Rattle.srm_world.specs.Claims.{IsLawfulJournal};
+ghost use Rattle.srm_world.specs.WaitWords.{AreByWords, RecordsByWords};
+ghost use Rattle.srm_frames.specs.Lines.{lines_text};
+ghost use Rattle.srm_record.specs.Calls.{lines_of};
+ghost use Rattle.srm_record.specs.Replays.{GoesOn, start_of, lines_told};
+ghost use Rattle.srm_record.specs.Takes.{taken_in, takes_at, end_at};
+
+use crate::taking::{end_at, takes_at};
+use crate::telling::{last_recorded, lines_of};
+use srm_entries::AgentFault;
+use srm_frames::{Beginning, Call, Line, Record, RecordEnd, put_lines};
+use srm_names::{LATEST_MOMENT, PAGES, PageMsg};
+use srm_timers::Pcg;
+use srm_world::{Journal, Recorder};
+use std::alloc::{AllocError, Global};
+
+/// What a member did, by its calls, and what its page workers took, slot by slot.
+#[derive(Drop)]
+pub struct Replayed {
+    pub journal: Journal,
+    pub taken: Vec<Vec<PageMsg>>,
+}
+
+/// Makes the calls of a record anew, in a recorder with the same settings and random numbers. Returns what came out, if the record's lines are exactly
+/// those that a member writes who did this; None where any is another, one is missing, or the member can't have been made then.
+///
+/// So the journal is a lawful run of its member, whatever the calls were, and the record is the record of that run. Fails only if out of memory. Costs what the member's calls
+/// cost, and a step for each byte of the lines.
+pub fn retell(alloc: Global, read: &Record) -> Result<Option<Replayed>, AllocError>
+    ensures start { IfOk result (λ found. IfSome found (λ r. r.journal.start ≡ start_of read.now.beginning)) }
+    ensures lawful { IfOk result (λ found. IfSome found (λ r. IsLawfulJournal r.journal)) }
+    ensures words { IfOk result (λ found. IfSome found (λ r. (to : Lcg) × AreByWords pcg64 r.journal.start.config (words_of read.now.beginning.seed) r.journal.entries to)) }
+    ensures told { IfOk result (λ found. IfSome found (λ r. lines_text read.now.lines.items ≡ lines_text (lines_told read.now.beginning r.journal.entries (taken_in r.taken.items) read.now.end))) }
+    ensures slots { IfOk result (λ found. IfSome found (λ r. vec_len r.taken ≡ PAGES)) }
+{
+    if read.beginning.made > LATEST_MOMENT {
+        return Ok(None);
+    }
+    let replayed = replay(alloc, read)?;
+    match is_told(alloc, read, &replayed) {
+        Ok(true) => Ok(Some(replayed)),
+        Ok(false) => Ok(None),
+        Err(error) => Err(error),
+    }
+}
+
+/// Makes the calls of a record anew.
+fn replay(alloc: Global, read: &Record) -> Result<Replayed, AllocError>
+    requires { read.now.beginning.made ≤ LATEST_MOMENT }
+    ensures start { IfOk result (λ r. r.journal.start ≡ start_of read.now.beginning) }
+    ensures lawful { IfOk result (λ r. IsLawfulJournal r.journal) }
+    ensures words { IfOk result (λ r. (to : Lcg) × AreByWords pcg64 r.journal.start.config (words_of read.now.beginning.seed) r.journal.entries to) }
+    ensures slots { IfOk result (λ r. vec_len r.taken ≡ PAGES) }
+{
+    let taken = lists(alloc, read.lines.as_slice())?;
+    let journal = journal(alloc, read.beginning, read.lines.as_slice())?;
+    Ok(Replayed { journal, taken })
+}
+
+/// Whether a record's lines are exactly those of what was replayed.
+fn is_told(alloc: Global, read: &Record, replayed: &Replayed) -> Result<bool, AllocError>
+    requires { vec_len replayed.now.taken ≤ PAGES }
+    ensures { IfOk result (λ same. same ≡ true → lines_text read.now.lines.items ≡ lines_text (lines_told read.now.beginning replayed.now.journal.entries (taken_in replayed.now.taken.items) read.now.end)) }
+{
+    let told = told(alloc, read.beginning, read.end, replayed)?;
+    let given = text_of(alloc, read.lines.as_slice())?;
+    let again = text_of(alloc, told.as_slice())?;
+    Ok(given.as_slice() == again.as_slice())
+}
+
+fn text_of(alloc: Global, lines: &[Line]) -> Result<Vec<u8>, AllocError>
+    ensures { IfOk result (λ bytes. bytes.items ≡ lines_text lines.now) }
+{
+    let mut bytes = Vec::new(alloc);
+    put_lines(alloc, &mut bytes, lines)?;
+    Ok(bytes)
+}
+
+/// The lines of what was replayed, up to the end if the record has it.
+fn told(
+    alloc: Global,
+    beginning: Beginning,
+    end: RecordEnd,
+    replayed: &Replayed,
+) -> Result<Vec<Line>, AllocError>
+    requires { vec_len replayed.now.taken ≤ PAGES }
+    ensures { IfOk result (λ lines. lines.items ≡ lines_told beginning replayed.now.journal.entries (taken_in replayed.now.taken.items) end) }
+{
+    let entries = replayed.journal.entries();
+    let last = last_recorded(beginning.made, entries);
+    let lines = with_takes(alloc, &beginning, last, replayed)?;
+    match end {
+        RecordEnd::Whole => ended(lines, last),
+        RecordEnd::Cut(_) => Ok(lines),
+    }
+}
+
+/// The same without the end.
+fn with_takes(
+    alloc: Global,
+    beginning: &Beginning,
+    last: u64,
+    replayed: &Replayed,
+) -> Result<Vec<Line>, AllocError>
+    requires { vec_len replayed.now.taken ≤ PAGES }
+    ensures { IfOk result (λ lines. lines.items ≡ lines_of beginning.now.config.session replayed.now.journal.entries ++ takes_at last (taken_in replayed.now.taken.items)) }
+{
+    let session = beginning.config.session();
+    let mut lines = lines_of(alloc, session, replayed.journal.entries())?;
+    let mut takes = takes_at(alloc, last, replayed.taken.as_slice())?;
+    lines.append(&mut takes)?;
+    Ok(lines)
+}
+
+/// The lines, and behind them the end.
+fn ended(lines: Vec<Line>, last: u64) -> Result<Vec<Line>, AllocError>
+    ensures { IfOk result (λ all. all.items ≡ lines.items ++ end_at last ∷ []) }
+{
+    let mut lines = lines;
+    lines.push(end_at(last)).map_err(AllocError::from)?;
+    Ok(lines)
+}
+
+/// The journal that a member has of these calls, made so and with the random numbers of this seed.
+fn journal(alloc: Global, beginning: Beginning, lines: &[Line]) -> Result<Journal, AllocError>
+    requires { beginning.made ≤ LATEST_MOMENT }
+    ensures start { IfOk result (λ j. j.start ≡ start_of beginning) }
+    ensures words { IfOk result (λ j. (to : Lcg) × AreByWords pcg64 j.start.config (words_of beginning.seed) j.entries to) }
+    ensures lawful { IfOk result IsLawfulJournal }
+{
+    let Beginning {
+        config,
+        made,
+        seed,
+        ..
+    } = beginning;
+    let recorder = Recorder::new(alloc, config, Pcg::new(seed), made)?;
+    played(recorder, lines)
+}
+
+/// The journal of a recorder that these calls were made of.
+fn played(recorder: Recorder<Pcg>, lines: &[Line]) -> Result<Journal, AllocError>
+    ensures start { IfOk result (λ j. j.start ≡ recorder.journal.start) }
+    ensures words { IfOk result (λ j. (to : Lcg) × RecordsByWords pcg64 recorder (record { journal = j; words = to })) }
+    ensures lawful { IfOk result IsLawfulJournal }
+{
+    let mut recorder = recorder;
+    match make_all(&mut recorder, lines) {
+        Ok(()) => Ok(recorder.finish()),
+        Err(error) => Err(error),
+    }
+}
+
+#[tactic(auto, using(crate::proofs::GoingOn::stays, crate::proofs::GoingOn::goes_on_more))]
+fn make_all(recorder: &mut Recorder<Pcg>, lines: &[Line]) -> Result<(), AllocError>
+    ensures { GoesOn pcg64 recorder.old recorder.new }
+{
+    for line in lines {
+        make_line(recorder, &line.call, line.moment.min(LATEST_MOMENT))?;
+    }
+    Ok(())
+}
+
+/// Makes a call. A give has the moment of the call before it, which may have no line: then noise comes first.
+#[tactic(auto, using(crate::proofs::GoingOn::stays, crate::proofs::GoingOn::goes_on_more))]
+fn make_line(recorder: &mut Recorder<Pcg>, call: &Call, now: u64) -> Result<(), AllocError>
+    requires { now ≤ LATEST_MOMENT }
+    ensures { GoesOn pcg64 recorder.old recorder.new }
+{
+    if matches!(call, Call::Gave(_)) && last_moment(recorder) < now {
+        wait(recorder, now)?;
+    }
+    make(recorder, call, now)
+}
+
+fn last_moment(recorder: &Recorder<Pcg>) -> u64 {
+    match recorder.entries().last() {
+        Some(entry) => entry.moment,
+        None => 0,
+    }
+}
+
+/// Lets a moment come, and nothing else.
+#[tactic(auto, using(crate::proofs::GoingOn::goes_on_by_hearing))]
+fn wait(recorder: &mut Recorder<Pcg>, now: u64) -> Result<(), AllocError>
+    requires { now ≤ LATEST_MOMENT }
+    ensures { GoesOn pcg64 recorder.old recorder.new }
+{
+    made(recorder.hear(&[], now))
+}
+
+/// Makes a call. What a member refuses is in its journal.
+#[tactic(auto, using(crate::proofs::GoingOn::goes_on_by_call, crate::proofs::GoingOn::goes_on_by_hearing, crate::proofs::GoingOn::stays))]
+fn make(recorder: &mut Recorder<Pcg>, call: &Call, now: u64) -> Result<(), AllocError>
+    requires { now ≤ LATEST_MOMENT }
+    ensures { GoesOn pcg64 recorder.old recorder.new }
+{
+    match call {
+        Call::Drew(page, body) => {
+            let body = body.clone()?;
+            made(recorder.draw(*page, body, now))
+        }
+        Call::Heard(bytes) => made(recorder.hear(bytes.as_slice(), now)),
+        Call::Ticked => made(recorder.tick(now)),
+        Call::Showed(page) => made(recorder.show(*page, now)),
+        Call::AskedLeave => made(recorder.leave(now)),
+        Call::Gave(slot) if *slot < PAGES => made(recorder.give(*slot)),
+        Call::Gave(_) | Call::Took(_, _) | Call::Ended => Ok(()),
+    }
+}
+
+/// Out of memory, or else that the call was made.
+fn made<T: Drop>(answer: Result<T, AgentFault>) -> Result<(), AllocError> {
+    match answer {
+        Err(AgentFault::Memory) => Err(AllocError),
+        _ => Ok(()),
+    }
+}
+
+/// What was taken in each slot.
+fn lists(alloc: Global, lines: &[Line]) -> Result<Vec<Vec<PageMsg>>, AllocError>
+    ensures { IfOk result (λ taken. vec_len taken ≡ PAGES) }
+{
+    let mut taken = empty_lists(alloc)?;
+    for line in lines {
+        if let Call::Took(slot, message) = &line.call {
+            keep(&mut taken, *slot, message)?;
+        }
+    }
+    Ok(taken)
+}
+
+fn empty_lists(alloc: Global) -> Result<Vec<Vec<PageMsg>>, AllocError>
+    ensures { IfOk result (λ taken. vec_len taken ≡ PAGES) }
+{
+    let mut taken = Vec::new(alloc);
+    'slots: for _ in 0..PAGES {
+        taken.push(Vec::new(alloc))?;
+    }
+    Ok(taken)
+}
+
+fn keep(taken: &mut Vec<Vec<PageMsg>>, slot: u8, message: &PageMsg) -> Result<(), AllocError>
+    ensures { vec_len taken.new ≡ vec_len taken.old }
+{
+    if let Some(list) = taken.get_mut(usize::from(slot)) {
+        list.push(message.copy()?)?;
+    }
+    Ok(())
+}
