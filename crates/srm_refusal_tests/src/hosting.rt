@@ -121,7 +121,7 @@ fn new_count(rt: &impl Abort, alloc: Global) -> Arc<AtomicU64, Global> {
 }
 
 /// A sink for each slot, all of which count here.
-fn counting(rt: &impl Abort, alloc: Global, seen: &Arc<AtomicU64, Global>) -> Vec<Counting> {
+fn counting_sinks(rt: &impl Abort, alloc: Global, seen: &Arc<AtomicU64, Global>) -> Vec<Counting> {
     let mut sinks = room(rt, alloc, usize::from(PAGES));
     for _ in 0..PAGES {
         let seen = Arc::try_clone(seen).expect(rt, "a count");
@@ -137,7 +137,7 @@ fn counting(rt: &impl Abort, alloc: Global, seen: &Arc<AtomicU64, Global>) -> Ve
 fn a_host_that_fails_has_started_no_worker(rt: HostRuntime) {
     let alloc = rt.alloc();
     let seen = new_count(&rt, alloc);
-    let sinks = counting(&rt, alloc, &seen);
+    let sinks = counting_sinks(&rt, alloc, &seen);
     if sinks.len() != usize::from(PAGES) {
         panic!(rt; "a sink for each slot");
     }
