@@ -8,6 +8,10 @@ use std::alloc::Global;
 use std::process::Abort;
 use std::sync::Wait;
 
+const FLOOD: Step = Step::Send(Sent::Noise, 100);
+
+const TURN: Step = Step::Turn(Ok(()));
+
 /// Member 0 sends so many datagrams of noise and the node of member 1 has 64 strokes: its next turn draws so many.
 fn assert_draws<R: Wait + Abort + Copy + Drop>(rt: R, alloc: Global, noise: u8, drawn: usize) {
     let steps = [
@@ -37,28 +41,26 @@ fn a_turn_draws_8_whatever_it_heard(rt: HostRuntime) {
 // Noise comes without end, and each turn hears 64: after eight turns all 64 strokes are drawn.
 #[test]
 fn a_flood_stops_nobody_from_drawing(rt: HostRuntime) {
-    let flood = Step::Send(Sent::Noise, 100);
-    let turn = Step::Turn(Ok(()));
     let steps = [
-        flood,
+        FLOOD,
         Step::InkMany(64),
-        turn,
-        flood,
-        turn,
-        flood,
-        turn,
-        flood,
-        turn,
-        flood,
-        turn,
-        flood,
-        turn,
-        flood,
-        turn,
-        flood,
-        turn,
-        flood,
-        turn,
+        TURN,
+        FLOOD,
+        TURN,
+        FLOOD,
+        TURN,
+        FLOOD,
+        TURN,
+        FLOOD,
+        TURN,
+        FLOOD,
+        TURN,
+        FLOOD,
+        TURN,
+        FLOOD,
+        TURN,
+        FLOOD,
+        TURN,
     ];
     play_beside(rt, rt.alloc(), &steps, &[Tale::Drawn(64, 5, 5)]);
 }

@@ -26,11 +26,13 @@ fn begins() -> Step {
 
 /// The next answer is that this page is shown, or why it isn't.
 fn shown(rt: &impl Abort, number: u16, refused: Option<PageRefusal>) -> Step {
-    let page = page(rt, number);
-    let outcome = match refused {
-        Some(refusal) => Err(refusal),
-        None => Ok(page),
-    };
+    match refused {
+        Some(refusal) => shows_so(page(rt, number), Err(refusal)),
+        None => shows_so(page(rt, number), Ok(page(rt, number))),
+    }
+}
+
+fn shows_so(page: Page, outcome: Result<Page, PageRefusal>) -> Step {
     Step::Answers(Some(PageAnswer {
         command: PageCommand::Show(page),
         outcome,
@@ -52,6 +54,11 @@ fn begun(rt: &impl Abort, begun: Result<u16, PageRefusal>) -> Step {
 const NONE_YET: Step = Step::Answers(None);
 
 const TURN: Step = Step::Turn(Ok(()));
+
+/// The second session message is due.
+const SECOND: Step = Step::At(1_000_005);
+
+const BEGINS_IN_VAIN: Step = Step::Commands(PageCommand::Begin, Err(ControlFault::Full));
 
 // Each turn carries out one command, in order.
 #[test]
@@ -79,10 +86,9 @@ fn commands_are_carried_out_one_a_turn(rt: HostRuntime) {
 #[test]
 fn a_turn_is_as_before_where_nothing_is_asked(rt: HostRuntime) {
     let tales = [Tale::Shown(0, 0), Tale::Sizes(28, 3, 25), Tale::Told(0, 0)];
-    let second = Step::At(1_000_005);
-    let without = [TURN, TURN, second, TURN];
+    let without = [TURN, TURN, SECOND, TURN];
     play_alone(rt, rt.alloc(), &without, &tales);
-    let with = [TURN, Step::Control, TURN, NONE_YET, second, TURN, NONE_YET];
+    let with = [TURN, Step::Control, TURN, NONE_YET, SECOND, TURN, NONE_YET];
     play_alone(rt, rt.alloc(), &with, &tales);
 }
 
@@ -185,7 +191,6 @@ fn a_member_that_left_shows_nothing(rt: HostRuntime) {
 // An answer makes room for one more.
 #[test]
 fn a_ninth_command_without_an_answer_is_refused(rt: HostRuntime) {
-    let full = Step::Commands(PageCommand::Begin, Err(ControlFault::Full));
     let steps = [
         Step::Control,
         shows(&rt, 1),
@@ -196,12 +201,12 @@ fn a_ninth_command_without_an_answer_is_refused(rt: HostRuntime) {
         shows(&rt, 6),
         shows(&rt, 7),
         shows(&rt, 1),
-        full,
+        BEGINS_IN_VAIN,
         TURN,
-        full,
+        BEGINS_IN_VAIN,
         shown(&rt, 1, None),
         shows(&rt, 2),
-        full,
+        BEGINS_IN_VAIN,
     ];
     play_alone(rt, rt.alloc(), &steps, &[Tale::Shown(1, 1)]);
 }
