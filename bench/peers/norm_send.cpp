@@ -70,6 +70,19 @@ static void send_all(NormInstanceHandle instance, NormObjectHandle stream, long 
     free(message);
 }
 
+/* Waits until both receivers have said that they have all. NORM gives up after some tries, on a busy machine before they answered: then it asks again. */
+static void await_both(NormSessionHandle session, NormInstanceHandle instance, NormObjectHandle stream)
+{
+    if (!NormSetWatermark(session, stream, false))
+        stop("NormSetWatermark");
+    await(instance, NORM_TX_WATERMARK_COMPLETED);
+    while (NormGetAckingStatus(session, NORM_NODE_ANY) != NORM_ACK_SUCCESS) {
+        if (!NormResetWatermark(session))
+            stop("NormResetWatermark");
+        await(instance, NORM_TX_WATERMARK_COMPLETED);
+    }
+}
+
 int main(int argc, char **argv)
 {
     if (argc != 4) {
@@ -88,9 +101,7 @@ int main(int argc, char **argv)
     /* The end of a stream is told by closing it, so one more message says it: its receivers count. */
     send_all(instance, stream, 1, bytes);
     NormStreamFlush(stream, false, NORM_FLUSH_ACTIVE);
-    if (!NormSetWatermark(session, stream, false))
-        stop("NormSetWatermark");
-    await(instance, NORM_TX_WATERMARK_COMPLETED);
+    await_both(session, instance, stream);
     NormDestroyInstance(instance);
     return 0;
 }
