@@ -10,47 +10,58 @@ use std::time::{Duration, Instant};
 /// The receivers, as NORM numbers its nodes; the sender is the first.
 const RECEIVERS: [u32; 2] = [2, 3];
 
+const SEND: &str = "norm_send";
+const RECEIVE: &str = "norm_receive";
+
 /// What a session over NORM cost, and how long its sender needed until both receivers had all.
 pub struct Norm {
     pub sender: Cost,
-    pub receivers: [Cost; 2],
+    pub receivers: Vec<Cost>,
     pub whole: Duration,
 }
 
 /// Sends so many messages of so many bytes with the peers in this folder.
-pub fn run(peers: &Path, messages: usize, bytes: usize) -> Norm {
+pub fn run(peers: &Path, messages: usize, bytes: usize) -> Result<Norm, String> {
     let port = free_port().to_string();
     let size = [messages.to_string(), bytes.to_string()];
-    let receivers = RECEIVERS.map(|node| start_receiver(peers, &port, node, &size));
+    let mut receivers = Vec::new();
+    for node in RECEIVERS {
+        receivers.push(start_receiver(peers, &port, node, &size)?);
+    }
     let begun = Instant::now();
-    let sender = Command::new(peers.join("norm_send"))
+    let sender = Command::new(peers.join(SEND))
         .arg(&port)
         .args(&size)
         .spawn()
-        .expect("norm_send");
-    let sender = usage::of_process(sender.id());
+        .map_err(|error| format!("cannot start {SEND}: {error}"))?;
+    let sender = cost_of(SEND, &sender)?;
     let whole = begun.elapsed();
-    let receivers = receivers.map(|child| usage::of_process(child.id()));
-    Norm {
+    let receivers = receivers.iter().map(|child| cost_of(RECEIVE, child));
+    Ok(Norm {
         sender,
-        receivers,
+        receivers: receivers.collect::<Result<_, _>>()?,
         whole,
-    }
+    })
 }
 
 /// Starts a receiver, and waits until it hears.
-fn start_receiver(peers: &Path, port: &str, node: u32, size: &[String]) -> Child {
-    let mut child = Command::new(peers.join("norm_receive"))
+fn start_receiver(peers: &Path, port: &str, node: u32, size: &[String]) -> Result<Child, String> {
+    let mut child = Command::new(peers.join(RECEIVE))
         .args([port, &node.to_string()])
         .args(size)
         .stdout(Stdio::piped())
         .spawn()
-        .expect("norm_receive");
+        .map_err(|error| format!("cannot start {RECEIVE}: {error}"))?;
     let mut line = String::new();
     let mut output = BufReader::new(child.stdout.as_mut().expect("its output"));
-    output.read_line(&mut line).expect("its first line");
-    assert_eq!(line, "ready\n", "norm_receive doesn't hear");
-    child
+    match output.read_line(&mut line) {
+        Ok(_) if line == "ready\n" => Ok(child),
+        _ => Err(format!("{RECEIVE} doesn't hear at port {port}")),
+    }
+}
+
+fn cost_of(name: &str, child: &Child) -> Result<Cost, String> {
+    usage::of_process(child.id()).map_err(|why| format!("{name}: {why}"))
 }
 
 fn free_port() -> u16 {

@@ -2,6 +2,8 @@
 
 use std::ffi::{c_int, c_long};
 use std::io;
+use std::os::unix::process::ExitStatusExt;
+use std::process::ExitStatus;
 
 /// `struct rusage` on 64-bit Linux: its two times, and its counts, of which the last but one is that of voluntary switches.
 #[repr(C)]
@@ -49,19 +51,24 @@ pub fn of_thread() -> f64 {
     moment.seconds as f64 * 1e6 + moment.nanos as f64 / 1e3
 }
 
-/// Waits for a process to end well, and answers what it took.
-pub fn of_process(pid: u32) -> Cost {
+/// Waits for a child process to end well, and answers what it took. Fails with how it ended else.
+pub fn of_process(pid: u32) -> Result<Cost, String> {
     let mut usage = Usage::default();
     let mut status = 0;
     let pid = c_int::try_from(pid).expect("a process number");
     // SAFETY: the system writes into `status` and `usage` alone, and this process waits for its own child, once.
     let answer = unsafe { wait4(pid, &mut status, 0, &mut usage) };
-    assert_eq!(answer, pid, "wait4: {}", io::Error::last_os_error());
-    assert_eq!(status, 0, "a member ended with {status}");
+    if answer != pid {
+        return Err(format!("wait4: {}", io::Error::last_os_error()));
+    }
+    let ended = ExitStatus::from_raw(status);
+    if !ended.success() {
+        return Err(format!("it ended with {ended}"));
+    }
     let [seconds, micros] = usage.user;
     let [more_seconds, more_micros] = usage.system;
-    Cost {
+    Ok(Cost {
         micros: (seconds + more_seconds) as f64 * 1e6 + (micros + more_micros) as f64,
         sleeps: usage.counts[VOLUNTARY],
-    }
+    })
 }

@@ -1,0 +1,64 @@
+//! What the command line says.
+
+use std::ffi::OsString;
+use std::path::PathBuf;
+
+/// How the program is called.
+pub const USAGE: &str = "\
+usage: srm-bench-node PROGRAM [PEERS] [--sessions N]
+
+PROGRAM is the binary of srm, PEERS the folder of NORM's peers.
+  --sessions N    sessions of each size, and of strokes that are typed at once; 5 if left out";
+
+/// What is measured, and how long.
+pub struct Arguments {
+    pub program: PathBuf,
+    pub peers: Option<PathBuf>,
+    /// Sessions of each size, and of strokes that are typed at once.
+    pub sessions: usize,
+}
+
+/// Reads the words behind the program's name. Fails with what is wrong with them.
+pub fn read(words: impl IntoIterator<Item = OsString>) -> Result<Arguments, String> {
+    let mut words = words.into_iter();
+    let mut arguments = Arguments {
+        program: PathBuf::new(),
+        peers: None,
+        sessions: 5,
+    };
+    let mut paths = Vec::new();
+    while let Some(word) = words.next() {
+        match word.to_str().filter(|word| word.starts_with("--")) {
+            Some(name) => arguments.set(name, words.next())?,
+            None => paths.push(PathBuf::from(word)),
+        }
+    }
+    let mut paths = paths.into_iter();
+    arguments.program = paths.next().ok_or("PROGRAM is missing")?;
+    arguments.peers = paths.next();
+    match paths.next() {
+        Some(path) => Err(format!("'{}' is one path too many", path.display())),
+        None => Ok(arguments),
+    }
+}
+
+impl Arguments {
+    // Sets what an option names.
+    fn set(&mut self, name: &str, value: Option<OsString>) -> Result<(), String> {
+        let value = value.ok_or(format!("{name} lacks its number"))?;
+        let value = value.to_string_lossy();
+        match name {
+            "--sessions" => self.sessions = number(name, &value)?,
+            _ => return Err(format!("there is no option '{name}'")),
+        }
+        Ok(())
+    }
+}
+
+// A number from 1 to a million.
+fn number(name: &str, text: &str) -> Result<usize, String> {
+    match text.parse() {
+        Ok(number @ 1..=1_000_000) => Ok(number),
+        _ => Err(format!("{name}: '{text}' is no number from 1 to 1000000")),
+    }
+}
