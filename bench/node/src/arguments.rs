@@ -5,10 +5,11 @@ use std::path::PathBuf;
 
 /// How the program is called.
 pub const USAGE: &str = "\
-usage: srm-bench-node PROGRAM [PEERS] [--sessions N]
+usage: srm-bench-node PROGRAM [PEERS] [--sessions N] [--seconds N]
 
 PROGRAM is the binary of srm, PEERS the folder of NORM's peers.
-  --sessions N    sessions of each size, and of strokes that are typed at once; 5 if left out";
+  --sessions N    sessions of each size, and of strokes that are typed at once; 5 if left out
+  --seconds N     seconds in which an idle member is watched; 10 if left out";
 
 /// What is measured, and how long.
 pub struct Arguments {
@@ -16,6 +17,8 @@ pub struct Arguments {
     pub peers: Option<PathBuf>,
     /// Sessions of each size, and of strokes that are typed at once.
     pub sessions: usize,
+    /// Seconds in which an idle member is watched.
+    pub seconds: usize,
 }
 
 /// Reads the words behind the program's name. Fails with what is wrong with them.
@@ -25,6 +28,7 @@ pub fn read(words: impl IntoIterator<Item = OsString>) -> Result<Arguments, Stri
         program: PathBuf::new(),
         peers: None,
         sessions: 5,
+        seconds: 10,
     };
     let mut paths = Vec::new();
     while let Some(word) = words.next() {
@@ -49,6 +53,7 @@ impl Arguments {
         let value = value.to_string_lossy();
         match name {
             "--sessions" => self.sessions = number(name, &value)?,
+            "--seconds" => self.seconds = number(name, &value)?,
             _ => return Err(format!("there is no option '{name}'")),
         }
         Ok(())

@@ -61,6 +61,11 @@ impl LiveMember {
         })
     }
 
+    /// The number of its process.
+    pub fn pid(&self) -> u32 {
+        self.child.id()
+    }
+
     /// Waits until it has its socket.
     pub fn await_socket(&mut self) -> Result<(), String> {
         let begun = Instant::now();

@@ -7,6 +7,7 @@ mod arguments;
 mod bare;
 mod cost_table;
 mod costs;
+mod idle;
 mod live;
 mod live_member;
 mod members;
@@ -18,6 +19,7 @@ mod sockets;
 mod speed_table;
 mod spread;
 mod strokes;
+mod switches;
 mod usage;
 
 use arguments::{Arguments, USAGE};

@@ -1,9 +1,9 @@
-//! The table of how fast live members are.
+//! The table of how fast live members are, and how often an idle one wakes.
 
 use crate::arguments::Arguments;
 use crate::number::grouped;
 use crate::spread::Spread;
-use crate::{moments, norm};
+use crate::{idle, moments, norm};
 use std::time::Duration;
 
 /// Strokes that are typed at once, and their bytes.
@@ -24,6 +24,8 @@ pub fn print(arguments: &Arguments) -> Result<(), String> {
         "| a line typed by itself: milliseconds until both others took it, median | {median:.2} | | at most 1 |"
     );
     println!("| the same: 99th of 100 | {late:.2} | | at most 3 |");
+    let wakes = idle::wakes(&arguments.program, arguments.seconds)?;
+    println!("| how often an idle member wakes in a second | {wakes:.1} | | at most 110 |\n");
     Ok(())
 }
 
