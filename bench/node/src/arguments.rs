@@ -5,11 +5,13 @@ use std::path::PathBuf;
 
 /// How the program is called.
 pub const USAGE: &str = "\
-usage: srm-bench-node PROGRAM [PEERS] [--sessions N] [--seconds N]
+usage: srm-bench-node PROGRAM [PEERS] [--sessions N] [--runs N] [--seconds N] [--paces N,N..]
 
 PROGRAM is the binary of srm, PEERS the folder of NORM's peers.
   --sessions N    sessions of each size, and of strokes that are typed at once; 5 if left out
-  --seconds N     seconds in which an idle member is watched; 10 if left out";
+  --runs N        runs at each pace, in which losses are counted; 10 if left out
+  --seconds N     seconds of such a run, and seconds in which an idle member is watched; 10 if left out
+  --paces N,N..   strokes a second that each of three members draws in such a run; 3000,6000 if left out";
 
 /// What is measured, and how long.
 pub struct Arguments {
@@ -17,8 +19,11 @@ pub struct Arguments {
     pub peers: Option<PathBuf>,
     /// Sessions of each size, and of strokes that are typed at once.
     pub sessions: usize,
-    /// Seconds in which an idle member is watched.
+    /// Runs at each pace, and their seconds.
+    pub runs: usize,
     pub seconds: usize,
+    /// Strokes a second that each member draws in a run.
+    pub paces: Vec<usize>,
 }
 
 /// Reads the words behind the program's name. Fails with what is wrong with them.
@@ -28,7 +33,9 @@ pub fn read(words: impl IntoIterator<Item = OsString>) -> Result<Arguments, Stri
         program: PathBuf::new(),
         peers: None,
         sessions: 5,
+        runs: 10,
         seconds: 10,
+        paces: vec![3_000, 6_000],
     };
     let mut paths = Vec::new();
     while let Some(word) = words.next() {
@@ -53,14 +60,19 @@ impl Arguments {
         let value = value.to_string_lossy();
         match name {
             "--sessions" => self.sessions = number(name, &value)?,
+            "--runs" => self.runs = number(name, &value)?,
             "--seconds" => self.seconds = number(name, &value)?,
+            "--paces" => {
+                let paces = value.split(',').map(|pace| number(name, pace));
+                self.paces = paces.collect::<Result<_, _>>()?;
+            }
             _ => return Err(format!("there is no option '{name}'")),
         }
         Ok(())
     }
 }
 
-// A number from 1 to a million.
+// A number from 1 to a million: more strokes a second, or seconds, no run has.
 fn number(name: &str, text: &str) -> Result<usize, String> {
     match text.parse() {
         Ok(number @ 1..=1_000_000) => Ok(number),

@@ -2,6 +2,7 @@
 
 use crate::reading::{lines_of, moments_of_strokes};
 use crate::sockets;
+use crate::who::Who;
 use std::io::Write;
 use std::net::SocketAddr;
 use std::path::Path;
@@ -79,6 +80,14 @@ impl LiveMember {
         Ok(())
     }
 
+    /// How many datagrams the system dropped at its socket so far.
+    pub fn drops(&mut self) -> Result<u64, String> {
+        match sockets::drops_at(self.port)? {
+            Some(drops) => Ok(drops),
+            None => Err(self.fault(&format!("has no socket with port {} any more", self.port))),
+        }
+    }
+
     /// Types a text to it.
     pub fn type_in(&mut self, text: &str) -> Result<(), String> {
         match self.input.write_all(text.as_bytes()) {
@@ -103,6 +112,23 @@ impl LiveMember {
             taken.count += 1;
         }
         taken
+    }
+
+    /// What it says of itself, once it has read all that was typed before.
+    pub fn ask_who(&mut self) -> Result<Who, String> {
+        self.type_in("/who\n")?;
+        let until = Instant::now() + LIMIT;
+        loop {
+            let left = until.saturating_duration_since(Instant::now());
+            match self.told.recv_timeout(left) {
+                Ok(line) => {
+                    if let Some(who) = Who::of(&line) {
+                        return Ok(who);
+                    }
+                }
+                Err(_) => return Err(self.fault("doesn't answer /who")),
+            }
+        }
     }
 
     /// What is wrong with it, with how it ended if it did, and what it told.

@@ -5,11 +5,15 @@
 mod addresses;
 mod arguments;
 mod bare;
+mod buffer;
 mod cost_table;
 mod costs;
+mod feeding;
 mod idle;
 mod live;
 mod live_member;
+mod loss_table;
+mod losses;
 mod members;
 mod moments;
 mod norm;
@@ -21,6 +25,7 @@ mod spread;
 mod strokes;
 mod switches;
 mod usage;
+mod who;
 
 use arguments::{Arguments, USAGE};
 use std::env;
@@ -44,6 +49,8 @@ fn main() -> ExitCode {
 }
 
 fn print(arguments: &Arguments) -> Result<(), String> {
+    println!("{}\n", buffer::line()?);
     cost_table::print(arguments)?;
-    speed_table::print(arguments)
+    speed_table::print(arguments)?;
+    loss_table::print(arguments)
 }
