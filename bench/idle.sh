@@ -1,26 +1,19 @@
 #!/bin/sh
-# How much memory a member holds that has nothing to do, in KiB: once it has begun, and each minute since. It turns nearly a hundred
-# times a second, so 100,000 turns take 17 to 18 minutes. Usage: ./idle.sh [MINUTES [FORM]]: 17 minutes if left out; the form is live, or kept for
-# a member that keeps its journal.
+# How much memory a live member holds that has nothing to do, in KiB: once it has begun, and each minute since. It turns nearly a hundred
+# times a second, so 100,000 turns take 17 to 18 minutes. Usage: ./idle.sh [MINUTES]: 17 minutes if left out.
 set -u
 here=$(CDPATH='' cd -- "$(dirname -- "$0")" && pwd) || exit 1
 srm=${SRM:-"$here/../crates/srm_main/out/srm_main"}
 minutes=${1:-17}
-form=${2:-live}
 # The program is proved and built first, unless SRM names one.
 [ -n "${SRM-}" ] || "$here/../srm" build || exit
 folder=$(mktemp -d) || exit 1
 mkfifo "$folder/input" || exit 1
 
-# The input of a live member stays open for as long as this runs. That of the other ends at once, and it stays and turns for ever.
-if [ "$form" = kept ]; then
-    "$srm" node --session 7 --me 0 --stay 281474976710656 --turns 18446744073709551615 127.0.0.1:47110 127.0.0.1:47111 </dev/null >/dev/null 2>&1 &
-    member=$!
-else
-    "$srm" node --session 7 --me 0 --live 127.0.0.1:47110 127.0.0.1:47111 <"$folder/input" >/dev/null 2>&1 &
-    member=$!
-    exec 3>"$folder/input"
-fi
+# The member's input stays open for as long as this runs.
+"$srm" node --session 7 --me 0 --live 127.0.0.1:47110 127.0.0.1:47111 <"$folder/input" >/dev/null 2>&1 &
+member=$!
+exec 3>"$folder/input"
 trap 'kill "$member" 2>/dev/null; rm -rf "$folder"' EXIT
 
 held() {
