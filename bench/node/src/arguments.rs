@@ -13,6 +13,9 @@ PROGRAM is the binary of srm, PEERS the folder of NORM's peers.
   --seconds N     seconds of such a run, and seconds in which an idle member is watched; 10 if left out
   --paces N,N..   strokes a second that each of three members draws in such a run; 3000,6000 if left out";
 
+/// So many strokes a stream holds, and a live member draws all of its strokes in one.
+const STREAM: usize = 65_536;
+
 /// What is measured, and how long.
 pub struct Arguments {
     pub program: PathBuf,
@@ -44,6 +47,7 @@ pub fn read(words: impl IntoIterator<Item = OsString>) -> Result<Arguments, Stri
             None => paths.push(PathBuf::from(word)),
         }
     }
+    arguments.check_paces()?;
     let mut paths = paths.into_iter();
     arguments.program = paths.next().ok_or("PROGRAM is missing")?;
     arguments.peers = paths.next();
@@ -69,6 +73,17 @@ impl Arguments {
             _ => return Err(format!("there is no option '{name}'")),
         }
         Ok(())
+    }
+
+    // A run that draws more strokes than a stream holds would lack the rest.
+    fn check_paces(&self) -> Result<(), String> {
+        let seconds = self.seconds;
+        match self.paces.iter().find(|pace| *pace * seconds > STREAM) {
+            Some(pace) => Err(format!(
+                "a member draws at most {STREAM} strokes, and {pace} a second for {seconds} s are more"
+            )),
+            None => Ok(()),
+        }
     }
 }
 
