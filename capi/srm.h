@@ -50,8 +50,9 @@
  * after srm_agent_free(), memory that is shorter than the length says, pointers of one call that overlap, two calls of one agent at once.
  *
  * @par Memory
- * comes from malloc, realloc and free. Where it is refused the call returns ::SRM_ERROR_MEMORY. Make the same call again later, or let
- * it be: a datagram that is not heard counts as lost, a tick stays due, and a message is still to be given.
+ * comes from malloc, calloc, realloc and free. Where it is refused the call returns ::SRM_ERROR_MEMORY, and keeps what room it got. Make
+ * the same call again later, or let it be: a datagram that is not heard counts as lost, a tick stays due, and a message is still to be
+ * given.
  */
 #ifndef SRM_H
 #define SRM_H
@@ -177,7 +178,7 @@ typedef struct srm_config {
     uint32_t session;        /**< The session's number, which all its datagrams carry. */
     uint32_t rate;           /**< Bytes a second that may be sent, ::SRM_RATE_MIN to ::SRM_RATE_MAX; by default 8,000. */
     uint32_t depth;          /**< Bytes of the token bucket, ::SRM_DEPTH_MIN to ::SRM_DEPTH_MAX; by default 4,204. */
-    uint8_t me;              /**< This member, below `members`; by default 0. */
+    uint8_t me;              /**< This member, below `members`; by default 0. One that is restarted needs a number that nobody had. */
     uint8_t members;         /**< How many members there are, 1 to ::SRM_MEMBERS_MAX; by default 1. */
     uint8_t c1;              /**< A request waits at least so many distances, 0 to ::SRM_WAIT_MAX; by default 2. */
     uint8_t c2;              /**< And so many more at most, 0 to ::SRM_WAIT_MAX; by default 2. */

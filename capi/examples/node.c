@@ -84,7 +84,7 @@ static bool turn(uint64_t wake, bool reads)
 /* Draws whole lines as the rate lets them go. Returns from when on the next one goes: never where there is none, or a tick comes first. */
 static uint64_t draw_lines(void)
 {
-    for (char *end; (end = memchr(line, '\n', have)); memmove(line, end + 1, have)) {
+    for (char *end; (end = (char *)memchr(line, '\n', have)); memmove(line, end + 1, have)) {
         size_t length = (size_t)(end - line);
         if (!srm_agent_admits(agent, length, now()))
             return srm_agent_admits_from(agent, length);
