@@ -259,8 +259,8 @@ SRM_API bool srm_agent_admits(srm_agent *agent, size_t length, uint64_t now);
  *
  * @param agent   the agent
  * @param length  bytes of the stroke; more than ::SRM_BODY_MAX count as so many
- * @return the moment, in microseconds, which may be past ::SRM_MOMENT_MAX; ::SRM_NEVER where something else has to go first, of which
- *         srm_agent_next_due() tells when, or there is no agent
+ * @return the moment, in microseconds, which may be past ::SRM_MOMENT_MAX; ::SRM_NEVER if something else has to go first:
+ *         srm_agent_next_due() tells when that goes; or if there is no agent
  */
 SRM_API uint64_t srm_agent_admits_from(srm_agent *agent, size_t length);
 

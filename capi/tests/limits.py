@@ -75,7 +75,7 @@ def numbered():
 
 
 def specified(file, pattern):
-    """The numbers by which srm_ffi's definitions tell C of the variants that a pattern finds."""
+    """Finds the variants that match a pattern, with the numbers that srm_ffi returns to C for them."""
     return {snake(name): number for name, number in numbers((TOP / "crates/srm_ffi/specs" / file).read_text(), pattern).items()}
 
 

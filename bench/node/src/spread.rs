@@ -11,7 +11,7 @@ pub struct Spread {
 }
 
 impl Spread {
-    /// That of these, of which there is at least one.
+    /// Measures the spread of these durations. Precondition: there is one at least.
     pub fn of(durations: Vec<Duration>) -> Spread {
         let mut durations = durations;
         durations.sort();
