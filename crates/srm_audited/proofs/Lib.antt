@@ -1,2 +1,0 @@
-mod SoFar
-mod Judged
