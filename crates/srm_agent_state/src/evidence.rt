@@ -10,7 +10,7 @@ ghost use Rattle.srm_agent_state.specs.Growth.{LearnsNames};
 use srm_names::{Name, Stream};
 use srm_store::Store;
 
-/// Notes that names, for which the store has room, are known to exist. Takes no memory.
+/// Notes that names are known to exist. The caller has made room for them in the store. Takes no memory.
 pub fn learn_all(store: &mut Store, names: &[Name])
     requires { HavePlaces names.now store.old }
     ensures { LearnsNames names.now store.old store.new }

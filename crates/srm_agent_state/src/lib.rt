@@ -2,6 +2,9 @@
 //!
 //! Contracts speak of the entries of the member: the timers are those that the entries set, and a slot's progress is what they gave.
 //!
+//! [`Timers`] has the timers, [`Progress`] what a page slot gave. [`keep`], [`learn_all`] and [`learn_datagram`] change the store, [`hear_session_message`] the
+//! distances. [`page_in_range`] and [`stream_in_range`] are for proofs.
+//!
 //! It is for `srm_agent`; nothing else needs it.
 //!
 //! ```

@@ -43,14 +43,14 @@ impl Progress {
         }
     }
 
-    /// Whether the page was given.
+    /// Returns whether the page was given.
     pub fn is_opened(&self) -> bool
         ensures { result ≡ self.now.opened }
     {
         self.opened
     }
 
-    /// Whether the close was given.
+    /// Returns whether the close was given.
     pub fn is_closed(&self) -> bool
         ensures { result ≡ self.now.closed }
     {
@@ -65,7 +65,7 @@ impl Progress {
         self.numbers[source.index()]
     }
 
-    /// Whether the leaving of a source was given.
+    /// Returns whether the leaving of a source was given.
     pub fn has_left(&self, source: Member) -> bool
         ensures { result ≡ slice_index_or self.now.left source false }
     {

@@ -42,8 +42,8 @@ fn echo_for(echoes: &[Echo], me: &Member) -> Option<(u64, u64)>
     Some((echo.t1, echo.delay))
 }
 
-/// Notes that the names of a datagram, for which the store has room, are known to exist, and by a farewell how far its sender's streams go.
-/// Takes no memory.
+/// Notes that the names of a datagram are known to exist, and by a farewell how far its sender's streams go. The caller has made room for them in the store. Takes
+/// no memory.
 pub fn learn_datagram(store: &mut Store, datagram: &Datagram, names: &[Name])
     requires names { names.now ≡ names_in datagram.now }
     requires ready { HavePlaces names.now store.old }

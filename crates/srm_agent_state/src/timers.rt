@@ -107,7 +107,7 @@ impl Timers {
         Ok(arms)
     }
 
-    /// Returns the first moment at which a timer expires; `None` if none runs. Takes no memory.
+    /// Returns when the first timer expires, in microseconds; `None` if none runs. Takes no memory.
     #[tactic(auto, using(crate::proofs::Midway::first_of_both))]
     pub fn next_moment(&self) -> Option<u64>
         ensures { TimersNext self.now result }

@@ -35,7 +35,7 @@ fn some_fates(rt: &impl Abort, alloc: Global, words: &mut Pcg) -> Vec<Fate> {
     fates
 }
 
-/// The wires of so many members, with the losses of which a number is the seed.
+/// The wires of so many members. The number is the seed of what they lose.
 fn wires<R: Wait + Abort + Copy + Drop>(
     rt: R,
     alloc: Global,

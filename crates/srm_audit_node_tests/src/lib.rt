@@ -1,4 +1,4 @@
-//! Journals of nodes and what their page workers took, put together: over a network in memory, turned by hand and in threads, and over
+//! Journals of nodes and what their page workers took, put together: over a network in memory, with and without threads, and over
 //! loopback.
 #![tactic(auto)]
 

@@ -70,7 +70,7 @@ fn three_wires(rt: &(impl Net + Abort), alloc: Global) -> io::Result<[UdpWire; 3
     ])
 }
 
-/// What became of three members, each in a thread of its own.
+/// What became of three members, each in its own thread.
 fn three_members<R: Clock + Threads + Wait + Abort + Copy + Send + Drop + 'static>(
     rt: &R,
     alloc: Global,

@@ -1,4 +1,4 @@
-//! Members as nodes, whose pens sent their strokes before the first turn.
+//! Members as nodes, whose producers sent their strokes before the first turn.
 
 ghost use Rattle.std.specs.Prelude.{◌≡◌, vec_len};
 ghost use Rattle.srm_names.specs.declared.limits.TheConstants.{PAGES};
@@ -16,7 +16,7 @@ pub(crate) fn config(rt: &impl Abort, me: u8, members: u8) -> Config {
     srm_rig_members::config(me, members).expect(rt, "settings")
 }
 
-/// A new node with these strokes, of one byte each, that leaves at a moment. Its waits are chosen by the words of which a number is the seed.
+/// A new node with these strokes, of one byte each, that leaves at a moment. The number is the seed of the random numbers that choose its waits.
 pub(crate) fn make_station<R: Wait + Abort, X: Wire + Drop, C: Clock + Drop>(
     rt: &R,
     alloc: Global,

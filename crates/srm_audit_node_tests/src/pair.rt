@@ -1,4 +1,4 @@
-//! Two nodes that are turned by hand.
+//! Two nodes that the test turns.
 
 use crate::checks::{check_reconciles, check_refused};
 use crate::member::{config, make_station};

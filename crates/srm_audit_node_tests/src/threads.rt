@@ -26,7 +26,7 @@ fn start<R: Threads + Wait + Abort + Copy + Send + Drop + 'static>(
     }
 }
 
-/// What became of three members, each in a thread of its own.
+/// What became of three members, each in its own thread.
 fn three_members<R: Threads + Wait + Abort + Copy + Send + Drop + 'static>(
     rt: R,
     alloc: Global,

@@ -1,6 +1,6 @@
 //! Journals of recorders at worked calls, put together.
 //!
-//! The tests stand in a crate of their own: what puts journals together is proved once, and not a second time with them.
+//! The tests have their own crate: what puts journals together is proved once, and not a second time with them.
 #![tactic(auto)]
 
 #[cfg(test)]

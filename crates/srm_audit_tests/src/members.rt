@@ -12,7 +12,7 @@ pub(crate) fn member(rt: &impl Abort, number: u8) -> Member {
     Member::new(number).expect(rt, "a member")
 }
 
-/// The recorder of a member that did nothing yet. All its words are 0.
+/// The recorder of a member that did nothing yet. All its random numbers are 0.
 pub(crate) fn fresh(
     rt: &impl Abort,
     alloc: Global,

@@ -32,7 +32,7 @@ const TWO: [(usize, Call); 19] = [
     (1, Call::Give),
 ];
 
-/// Member 0 draws two drawops, of which the second is lost, as the request for it is at first.
+/// Member 0 draws two drawops. The second is lost, and so is the first request for it.
 const LOST: [(usize, Call); 8] = [
     (0, Call::Draw(1)),
     (0, Call::Draw(2)),

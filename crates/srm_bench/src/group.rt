@@ -96,7 +96,7 @@ impl<'a> Group<'a> {
         })
     }
 
-    /// Member 0 draws pairs of drawops, of which the first is lost, and what is lost is repaired. How many numbers were told.
+    /// Member 0 draws pairs of drawops. The first of each pair is lost and then repaired. Returns how many numbers were told.
     pub fn lose(mut self, plan: &Plan) -> Option<usize> {
         self.play(plan.start)?;
         for _ in 0..plan.losses {
@@ -116,7 +116,7 @@ impl<'a> Group<'a> {
         self.note_due(0)
     }
 
-    /// Lets so many microseconds pass. What comes at the moment at which a member is due is heard first.
+    /// Lets so many microseconds pass. What comes at the moment when a member is due is heard first.
     fn play(&mut self, micros: u32) -> Option<()> {
         let end = self.now.saturating_add(u64::from(micros));
         for _ in 0..EVENTS {
@@ -236,8 +236,8 @@ impl<'a> Group<'a> {
         }
     }
 
-    /// Tells what a member did with the drawop of a number: when, who, what, the number, and how far away the member is by which a timer
-    /// was set.
+    /// Tells what a member did with the drawop of a number: when, who, what, the number, and the distance that a timer's
+    /// wait was chosen from.
     fn tell(&mut self, step: Step, place: usize, number: u32, distance: u64) {
         self.teller.tell(self.now);
         self.teller.tell(place as u64);

@@ -1,7 +1,7 @@
 //! What the benchmarks and the driver for hostile datagrams call from Rust: one member's agent over many calls, the moments of
 //! many names, which are cleared and set, the journals of a session, which are put together, and a group that repairs what it loses.
 //!
-//! What the agent answered is told in numbers, by which two agents can be compared.
+//! What the agent answered is told in numbers, so that two agents can be compared.
 #![tactic(auto)]
 
 mod caller;
@@ -91,7 +91,7 @@ pub extern "C" fn srm_sessions(
 /// A group loses drawops of member 0 and repairs them. It has a member for each seed of random numbers, 1 to 32, all with these waits; the ways
 /// between them are microseconds, by sender and then receiver, and drawops that are lost come to all members but those that are cut off. What
 /// becomes of each drawop is told, five numbers for each step: the moment, the member, the [`Step`](crate::step::Step), the drawop's number, and the
-/// distance by which a timer was set, else 0. How many numbers were told, as far as there was room; the greatest number where memory ran
+/// distance that a timer's wait was chosen from, else 0. Returns how many numbers were told, as far as there was room; the greatest number where memory ran
 /// out, a wait is out of range, or a list is too short.
 #[unsafe(no_mangle)]
 pub extern "C" fn srm_losses(

@@ -1,4 +1,4 @@
--- Each pop taken for a tick of its own allows and charges as the ticks do.
+-- Each pop, taken for a tick, allows and charges as the ticks do.
 use Rattle.std.proofs.Common.{◌≡◌, ℕ, ◌+◌, ◌-◌, min, List, [], ◌∷◌, map, Bool, true, false, ◌&&◌, refl, ap, ◌∙◌, arith, add_assoc}
 use Rattle.std.specs.Prelude.{◌==◌, if◌then◌else◌, is_some}
 use Rattle.std.proofs.lemmas.Bool.{and_parts, eqb-true}

@@ -112,7 +112,7 @@ impl<T> Bucket<T> {
         self.queues.pop()
     }
 
-    /// Returns the first moment, from the last one on, at which the next item can go; `None` if nothing waits.
+    /// Returns the first moment, not before the last one, when the next item can go, in microseconds; it may be past 2^48. `None` if nothing waits.
     pub fn wait_until(&self) -> Option<u64>
         ensures { IsNextDeparture self.now result }
     {
@@ -120,8 +120,8 @@ impl<T> Bucket<T> {
         Some(self.tokens.first_moment(length))
     }
 
-    /// Whether one more item of a class and so many bytes would go at once if it were handed in at `now`: nothing waits of its class
-    /// and higher ones, or the tokens cover all of these and the item.
+    /// Returns whether one more item of a class and so many bytes would go at once if it were handed in at `now`: nothing waits of its class and higher ones, or the
+    /// tokens cover all of these and the item.
     ///
     /// Takes no memory, and looks at no more items than there are tokens for.
     #[tactic(auto, using(crate::proofs::Admitting::admits_clear, crate::proofs::Admitting::admits_paid, crate::proofs::Admitting::admits_short))]
@@ -137,8 +137,8 @@ impl<T> Bucket<T> {
         }
     }
 
-    /// Returns the moment from which on [`admits`](Bucket::admits) returns true for an item of a class and so many bytes, if nothing is
-    /// handed in or goes meanwhile. It may be past 2^48. `None` if the item and what waits before it are more than the depth.
+    /// Returns when [`admits`](Bucket::admits) begins to return true for an item of a class and so many bytes, in microseconds, if nothing is handed in or goes
+    /// before. It may be past 2^48. `None` if the item and what waits before it are more than the depth.
     ///
     /// Takes no memory, and looks at no more items than a full bucket has tokens for.
     #[tactic(auto, using(crate::proofs::Admitting::from_clear, crate::proofs::Admitting::from_never, crate::proofs::Admitting::from_too_much, crate::proofs::Admitting::from_first))]

@@ -18,5 +18,5 @@ pub const LEAST_DEPTH: u32 = GREATEST_LENGTH;
 /// The greatest depth, in bytes.
 pub const GREATEST_DEPTH: u32 = 1_000_000;
 
-/// Tokens for one byte.
+/// Tokens for one byte: 1,000,000. It is public for contracts.
 pub const MILLIONTHS: u64 = 1_000_000;

@@ -1,4 +1,4 @@
--- No fault of bytes is want of memory.
+-- No fault of bytes is out of memory.
 use Rattle.std.proofs.Common.{◌≡◌, ◌≢◌, ℕ, zero, suc, Bool, true, false, List, length, Option, Some, None, Result, Ok, Err}
 use Rattle.std.specs.Prelude.{◌==◌, ◌||◌, ◌&&◌, not, ⊤, nat_lt, nat_le, take, drop, if◌then◌else◌}
 use Rattle.std.specs.List.{list_all}

@@ -251,7 +251,7 @@ spelled_is_read session bytes (Err f) g lt s (inl e) = absurd (differ (sym (spel
     differ e = cc
 spelled_is_read session bytes (Err f) g lt s (inr e) = inr (ap failed e.0)
 
--- want of memory is an answer to what passed
+-- out of memory is an answer only to valid bytes
 pub memory_is_for_good : (session : ℕ) (bytes : List ℕ) (answer : Result Datagram DecodeFault) → IsJudged takes_memory answer (judge session bytes) → answer ≡ Err faults.Memory → IsOk (judge session bytes)
 memory_is_for_good session bytes answer judged e = at answer (judge session bytes) (never_memory session bytes) judged e
   where

@@ -65,7 +65,7 @@ is_done item count done capacity prefix rest bytes le so_far =
     let one : with_prefix prefix (items_at item (count - done) (newest prefix) rest) ≡ Ok (prefix, rest) = rw k (ap (λ ys. Ok (ys, rest)) (append-nil prefix)) in
     sym so_far.read ∙ one
 
--- A loop has judged the first of these values, the last of which is this one, and has these bytes left.
+-- A loop has judged the first of these values up to this one, and has these bytes left.
 abbrev pub IsSkimming : {X : Type 0} → (Option X → List ℕ → Read X) → ℕ → ℕ → Option X → List ℕ → List ℕ → Type 0
 IsSkimming {X} item count done last rest bytes = (prefix : List X) × (newest prefix ≡ last) × IsReading item count done count prefix rest bytes
 

@@ -78,7 +78,7 @@ largest : length (spelling 7 (Data (record { name = named zero_stream 1; stamp =
 unfolding head page_bytes name_bytes drawop_bytes echo_bytes request_bytes spelling
 largest = refl
 
--- ---- want of memory: in place of no fault, of no request, and perhaps of data
+-- ---- out of memory: only for a valid datagram that isn't a request
 
 abbrev memory : Result Datagram DecodeFault
 memory = Err Memory

@@ -104,7 +104,7 @@ drawop_bytes d = name_bytes d.name ++ to_be_bytes w64 d.stamp ++ to_be_bytes w16
 unfoldable pub echo_bytes : Echo → List ℕ
 echo_bytes e = e.member ∷ (to_be_bytes w64 e.t1 ++ to_be_bytes w64 e.delay)
 
--- a request for one name is spelled plainly, one for several in a version of its own, with its mask
+-- a request for one name is spelled plainly, one for several in version 2, with its mask
 unfoldable pub request_bytes : ℕ → ℕ → FullName → ℕ → List ℕ
 request_bytes session sender name mask =
     if mask == 0 then head PLAIN REQUEST session sender ++ name_bytes name

@@ -14,6 +14,7 @@ use bytes::Bytes;
 use srm_names::{Drawop, Member, Name};
 use std::alloc::Global;
 
+/// Reads what follows the head of a datagram of this version and kind. Fails with the first fault of the bytes.
 #[tactic(auto, unfolding(crate::specs::Judging::contents_of))]
 pub fn contents(
     alloc: Global,

@@ -12,25 +12,33 @@ pub enum Datagram {
     Data(Drawop),
     /// Requests `name`, and for each bit `k` of the mask the name whose number is greater by `1 + k`.
     Request {
+        /// The member that requests.
         sender: Member,
+        /// The first name that it requests.
         name: Name,
+        /// Which later names of the stream it requests too, a bit each; 0 for none.
         mask: u32,
     },
     /// A held drawop, from any member that holds it.
     Repair {
+        /// The member that repairs.
         sender: Member,
+        /// The drawop that it holds.
         drawop: Drawop,
     },
     /// Says what a member knows of the page that it shows, and when it heard the others. A farewell is its last one.
     Session {
+        /// The member that sends it.
         sender: Member,
-        /// The moment in microseconds at which it was sent, by the sender's clock.
+        /// The moment when it was sent, in microseconds of the sender's clock, at most 2^48.
         sent: u64,
+        /// Whether it is the last one of its sender.
         farewell: bool,
+        /// The page that its sender shows.
         shown: Page,
-        /// Of each stream the greatest number known, in order of stream.
+        /// The greatest number known of each stream, in order of stream.
         rows: Items<Name>,
-        /// Of each member the newest session message heard, in order of member.
+        /// The newest session message heard from each member, in order of member.
         echoes: Items<Echo>,
     },
 }

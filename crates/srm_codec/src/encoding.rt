@@ -33,7 +33,8 @@ pub fn encode(alloc: Global, session: u32, datagram: &Datagram) -> Result<Vec<u8
     Ok(out)
 }
 
-/// Returns how many bytes the spelling of the datagram has, in any session, 17 or more. Takes no memory.
+/// Returns how many bytes the spelling of the datagram has, in any session, 17 or more. The caller shows that it has one ([`encodable`](crate::encodable)). Takes no
+/// memory.
 pub fn length(datagram: &Datagram) -> usize
     requires { IsSpellable datagram.now }
     ensures value { result ≡ length_of datagram.now }

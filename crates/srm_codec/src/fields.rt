@@ -6,6 +6,7 @@ ghost use Rattle.srm_codec.specs.Spelling.{head, page_bytes, name_bytes};
 use crate::format::{HEAD_BYTES, MAGIC, NAME_BYTES};
 use srm_names::{Member, Name, Page};
 
+/// Returns the head of a datagram as bytes.
 #[tactic(auto, unfolding(crate::specs::Spelling::head))]
 pub fn head_field(version: u8, kind: u8, session: u32, sender: Member) -> [u8; HEAD_BYTES]
     ensures { result ≡ head version kind session sender }
@@ -25,6 +26,7 @@ pub fn head_field(version: u8, kind: u8, session: u32, sender: Member) -> [u8; H
     ]
 }
 
+/// Returns a page as bytes: its creator, and its number in two.
 #[tactic(auto, unfolding(crate::specs::Spelling::page_bytes))]
 pub fn page_field(page: Page) -> [u8; 3]
     ensures { result ≡ page_bytes page }
@@ -33,6 +35,7 @@ pub fn page_field(page: Page) -> [u8; 3]
     [page.creator.number(), number[0], number[1]]
 }
 
+/// Returns a name as bytes: its source, its page, and its number in four.
 #[tactic(auto, unfolding(crate::specs::Spelling::name_bytes, crate::specs::Spelling::page_bytes))]
 pub fn name_field(name: Name) -> [u8; NAME_BYTES]
     ensures { result ≡ name_bytes name }

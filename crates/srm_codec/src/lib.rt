@@ -1,14 +1,17 @@
 //! Datagrams as bytes: each datagram has one spelling, and each list of bytes is the spelling of one datagram or has
 //! a first fault.
 //!
+//! A [`Datagram`] is data, a request, a repair or a session message. [`length`] tells how many bytes it has, [`names_in`] which names it names. The laws are
+//! [`judging_undoes_spelling`] and [`spellings_are_unique`].
+//!
 //! ```
 //! let bytes = encode(alloc, session, &datagram)?;
 //! let again = decode(alloc, session, bytes.as_slice())?; // equal to the datagram
 //! ```
 //!
-//! **Errors.** [`decode`] returns the first [`DecodeFault`] in the order of the fields: of each first whether all its bytes are
-//! there, then its range; last whether a byte is left over. The caller of [`encode`] shows that the datagram has a spelling, as
-//! [`encodable`] says; it fails only if out of memory.
+//! **Errors.** [`decode`] returns the first [`DecodeFault`] that it finds. It goes through the fields in order: are all bytes of the
+//! field there, and is its value in range? Last it looks for bytes left over. [`encode`] fails only if out of memory. Its precondition
+//! is that the datagram has a spelling, as [`encodable`] says.
 #![tactic(auto)]
 
 mod contents;

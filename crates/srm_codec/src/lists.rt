@@ -9,7 +9,7 @@ use crate::reader::Reader;
 use srm_names::{Echo, Items, Member, Name};
 use std::alloc::Global;
 
-/// The rows, rising. In a farewell the source of each is the sender.
+/// Reads the rows, which rise. In a farewell the source of each is the sender.
 #[tactic(auto, unfolding(crate::specs::Judging::list_at))]
 pub fn rows(
     alloc: Global,
@@ -41,7 +41,7 @@ fn counted_rows(
     Ok(Items::new(rows))
 }
 
-/// The echoes, rising.
+/// Reads the echoes, which rise.
 #[tactic(auto, unfolding(crate::specs::Judging::list_at))]
 pub fn echoes(alloc: Global, reader: &mut Reader) -> Result<Items<Echo>, DecodeFault>
     ensures { IsReadUnless result reader.new (list_at echo_at reader.old) }

@@ -8,7 +8,7 @@ ghost use Rattle.srm_codec.specs.Spelling.{asked_by};
 use crate::format::MASK_BITS;
 use srm_names::{DRAWOPS, Name};
 
-/// Whether no number that the mask names is past the limit.
+/// Returns whether no number that the mask names is past the limit.
 pub fn is_within(name: Name, mask: u32) -> bool
     ensures { result ≡ list_all (λ n. nat_le n.number DRAWOPS) (asked_by name mask) }
 {

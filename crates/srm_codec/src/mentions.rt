@@ -9,8 +9,8 @@ use crate::format::MASK_BITS;
 use srm_names::Name;
 use std::alloc::{AllocError, Global};
 
-/// Returns the names that a datagram names, in order: one of data and repairs, up to 33 of a request, one for each row of a session
-/// message. Fails only if out of memory.
+/// Returns the names that a datagram names, in order; the caller shows that it has a spelling ([`encodable`](crate::encodable)): one of data and repairs, up to 33
+/// of a request, one for each row of a session message. Fails only if out of memory.
 pub fn names_in(alloc: Global, datagram: &Datagram) -> Result<Vec<Name>, AllocError>
     requires { IsSpellable datagram.now }
     ensures { IfOk result (λ names. names.items ≡ names_in datagram.now) }

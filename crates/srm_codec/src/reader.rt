@@ -26,13 +26,14 @@ impl<'a> Model for Reader<'a> {
 }
 
 impl<'a> Reader<'a> {
+    /// Makes a reader of bytes.
     pub fn new(bytes: &'a [u8]) -> Reader<'a>
         ensures { result ≡ bytes.now }
     {
         Reader { rest: bytes }
     }
 
-    /// Another reader of the bytes that are still to be read.
+    /// Returns another reader of the bytes that are still to be read.
     pub fn again(&self) -> Reader<'a>
         ensures { result ≡ self.now }
     {
@@ -50,6 +51,7 @@ impl<'a> Reader<'a> {
         Ok(*prefix)
     }
 
+    /// Reads one byte. Fails with `Short` if none is left.
     pub fn u8(&mut self) -> Result<u8, DecodeFault>
         ensures { IsRead result self.new (number_at w8 self.old) }
     {
@@ -64,6 +66,7 @@ impl<'a> Reader<'a> {
         Ok(u16::from_be_bytes(prefix))
     }
 
+    /// Reads a number of four bytes. Fails with `Short` if fewer are left.
     pub fn u32(&mut self) -> Result<u32, DecodeFault>
         ensures { IsRead result self.new (number_at w32 self.old) }
     {
@@ -78,6 +81,7 @@ impl<'a> Reader<'a> {
         Ok(u64::from_be_bytes(prefix))
     }
 
+    /// Reads the first two bytes. Fails with `Short`, and with `Magic` unless they are `SR`.
     #[tactic(auto, unfolding(crate::specs::Judging::magic_at))]
     pub fn magic(&mut self) -> Result<(), DecodeFault>
         ensures { IsReadBy (λ _. MAGIC) result self.new (magic_at self.old) }
@@ -90,6 +94,7 @@ impl<'a> Reader<'a> {
         }
     }
 
+    /// Reads the version, 1 or 2. Fails with `Short`, and with `Version` for another.
     #[tactic(auto, unfolding(crate::specs::Judging::version_at))]
     pub fn version(&mut self) -> Result<u8, DecodeFault>
         ensures { IsRead result self.new (version_at self.old) }
@@ -102,6 +107,7 @@ impl<'a> Reader<'a> {
         }
     }
 
+    /// Reads the kind. Fails with `Short`, and with `Kind` for one that this version doesn't have.
     #[tactic(auto, unfolding(crate::specs::Judging::kind_at))]
     pub fn kind(&mut self, version: u8) -> Result<u8, DecodeFault>
         ensures { IsRead result self.new (kind_at version self.old) }
@@ -114,6 +120,7 @@ impl<'a> Reader<'a> {
         }
     }
 
+    /// Reads the number of the session. Fails with `Short`, and with `Session` unless it is this one.
     #[tactic(auto, unfolding(crate::specs::Judging::session_at))]
     pub fn session(&mut self, session: u32) -> Result<(), DecodeFault>
         ensures { IsReadBy (λ _. session) result self.new (session_at session self.old) }
@@ -126,6 +133,7 @@ impl<'a> Reader<'a> {
         }
     }
 
+    /// Reads a member. Fails with `Short`, and with `Member` from 32 on.
     #[tactic(auto, unfolding(crate::specs::Judging::member_at))]
     pub fn member(&mut self) -> Result<Member, DecodeFault>
         ensures { IsRead result self.new (member_at self.old) }
@@ -134,6 +142,7 @@ impl<'a> Reader<'a> {
         Member::new(number).ok_or(DecodeFault::Member)
     }
 
+    /// Reads a moment or a delay, in microseconds. Fails with `Short`, and with `Number` past 2^48.
     #[tactic(auto, unfolding(crate::specs::Judging::moment_at))]
     pub fn moment(&mut self) -> Result<u64, DecodeFault>
         ensures { IsRead result self.new (moment_at self.old) }
@@ -146,6 +155,7 @@ impl<'a> Reader<'a> {
         }
     }
 
+    /// Reads a page. Fails with `Short`, and with `Member` for a creator from 32 on.
     #[tactic(auto, unfolding(crate::specs::Judging::page_at))]
     pub fn page(&mut self) -> Result<Page, DecodeFault>
         ensures { IsRead result self.new (page_at self.old) }
@@ -181,7 +191,7 @@ impl<'a> Reader<'a> {
         }
     }
 
-    /// A name, of the wanted source, after the last row.
+    /// Reads a name, of the wanted source, after the last row.
     #[tactic(auto, unfolding(crate::specs::Judging::number_in_stream_at, crate::specs::Judging::name_at))]
     pub fn name(&mut self, wanted: Option<Member>, last: Option<Name>) -> Result<Name, DecodeFault>
         ensures { IsRead result self.new (name_at wanted last self.old) }
@@ -191,6 +201,7 @@ impl<'a> Reader<'a> {
         stream.at(number).ok_or(DecodeFault::Number)
     }
 
+    /// Reads a body behind its length. Fails with `Short`, and with `Length` past 1,024 bytes.
     #[tactic(auto, unfolding(crate::specs::Judging::prefix_at, crate::specs::Judging::size_at, crate::specs::Judging::body_at))]
     pub fn body(&mut self) -> Result<&'a [u8], DecodeFault>
         ensures { IsReadBy (λ body. body.now) result self.new (body_at self.old) }
@@ -208,7 +219,7 @@ impl<'a> Reader<'a> {
         Ok(body)
     }
 
-    /// Whether the farewell's flag is set.
+    /// Reads the flags, and returns whether that of a farewell is set.
     #[tactic(auto, unfolding(crate::specs::Judging::flag_at))]
     pub fn flag(&mut self) -> Result<bool, DecodeFault>
         ensures { IsRead result self.new (flag_at self.old) }
@@ -221,7 +232,7 @@ impl<'a> Reader<'a> {
         }
     }
 
-    /// Nothing follows.
+    /// Checks that nothing follows. Fails with `Length` if something does.
     pub fn end(&self) -> Result<(), DecodeFault>
         ensures { MatchResult result (λ _. (length self.now == 0) ≡ true)
             (λ fault. ((length self.now == 0) ≡ false) × (fault ≡ Length)) }

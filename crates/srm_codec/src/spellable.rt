@@ -11,7 +11,7 @@ use crate::format::LONGEST_LIST;
 use crate::mask::is_within;
 use srm_names::{DRAWOPS, Drawop, Echo, LATEST_MOMENT, LONGEST_BODY, MEMBERS, Member, Name, Page};
 
-/// Whether the datagram has a spelling, so that it can be encoded. Takes no memory.
+/// Returns whether the datagram has a spelling, so that it can be encoded. Takes no memory.
 ///
 /// The types keep members and numbers in range. This checks the rest: moments, a body's length, a mask, and of rows and echoes their
 /// count, their members and their order.

@@ -53,7 +53,7 @@ impl Player for Calls {
 }
 
 impl Calls {
-    /// `c1 c2`: timers of which none runs.
+    /// `c1 c2`: timers with these constants. None runs.
     fn make(&mut self, mut words: Words<'_>) -> Result<(), LineFault> {
         let c1 = read_setting(&mut words);
         let c2 = read_setting(&mut words);
@@ -128,7 +128,7 @@ impl Calls {
         Ok(tell_arms(out, &arms)?)
     }
 
-    /// `T S C.P N EXPONENT DISTANCE`: a wait is chosen and the timer set, as a caller does that has an order of its own.
+    /// `T S C.P N EXPONENT DISTANCE`: a wait is chosen and the timer set, as a caller does that sets its timers in another order.
     fn set<O: Write>(&mut self, mut words: Words<'_>, out: &mut O) -> Result<(), LineFault> {
         let now = words.moment();
         let name = words.name();

@@ -40,7 +40,7 @@ impl Player for Calls {
 }
 
 impl Calls {
-    /// `R D`: a bucket of its own, which is full at moment 0.
+    /// `R D`: another bucket, which is full at moment 0.
     fn make(&mut self, mut words: Words<'_>) -> Result<(), LineFault> {
         let rate = words.number_from(u64::from(LEAST_RATE), u64::from(GREATEST_RATE));
         let depth = words.number_from(u64::from(LEAST_DEPTH), u64::from(GREATEST_DEPTH));
@@ -49,7 +49,7 @@ impl Calls {
         Ok(())
     }
 
-    /// How many more items are handed in without want of memory.
+    /// `N`: makes room for so many more items, which then need no memory.
     fn room(&mut self, mut words: Words<'_>) -> Result<(), LineFault> {
         let items = words.number(u64::from(DRAWOPS)) as usize;
         words.end()?;

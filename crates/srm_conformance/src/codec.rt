@@ -73,7 +73,7 @@ fn read_changed(alloc: Global, mut words: Words<'_>) -> Result<Vec<u8>, LineFaul
     Ok(bytes)
 }
 
-/// `AT BYTE` again and again, with which the line ends.
+/// `AT BYTE` again and again, up to the end of the line.
 fn change_all(alloc: Global, bytes: &mut [u8], words: &mut Words<'_>) -> Result<(), LineFault> {
     // A line has an end.
     for _ in 0..u64::MAX {

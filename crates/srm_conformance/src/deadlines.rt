@@ -125,7 +125,7 @@ impl<D: Deadlines> Calls<D> {
         tell(out, "due", &Maybe(self.deadlines.next()))
     }
 
-    /// `T`: the names whose moments have come.
+    /// `T`: the names whose deadlines have expired.
     fn due<O: Write>(&self, mut words: Words<'_>, out: &mut O) -> Result<(), LineFault> {
         let now = words.moment();
         words.end()?;
@@ -137,7 +137,7 @@ impl<D: Deadlines> Calls<D> {
     }
 }
 
-/// `S C.P N T` again and again, with which the line ends.
+/// `S C.P N T` again and again, up to the end of the line.
 fn last_moments(alloc: Global, words: &mut Words<'_>) -> Result<Vec<Timed>, LineFault> {
     let mut moments = Vec::new(alloc);
     // A line ends, but a loop is to show it.

@@ -29,7 +29,7 @@ impl Model for DistanceTable {
 }
 
 impl DistanceTable {
-    /// Every member is as far away as one of which nothing is known.
+    /// Every member has the distance of one that nothing is known about.
     pub fn new() -> DistanceTable {
         DistanceTable {
             distances: all_at(FIRST_DISTANCE),

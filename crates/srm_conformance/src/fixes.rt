@@ -52,7 +52,7 @@ impl Player for Calls {
 }
 
 impl Calls {
-    /// `d1 d2`: timers of which none runs.
+    /// `d1 d2`: timers with these constants. None runs.
     fn make(&mut self, mut words: Words<'_>) -> Result<(), LineFault> {
         let d1 = read_setting(&mut words);
         let d2 = read_setting(&mut words);
@@ -114,7 +114,7 @@ impl Calls {
         Ok(tell_names(out, "fix", &names)?)
     }
 
-    /// `T S C.P N DISTANCE`: a wait is chosen and the timer set, as a caller does that has an order of its own.
+    /// `T S C.P N DISTANCE`: a wait is chosen and the timer set, as a caller does that sets its timers in another order.
     fn set<O: Write>(&mut self, mut words: Words<'_>, out: &mut O) -> Result<(), LineFault> {
         let now = words.moment();
         let name = words.name();

@@ -1,4 +1,4 @@
-//! Allocations of the player's own. One that is refused is made once more, so that a run in which a single allocation is refused ends as any
+//! The player's allocations. One that is refused is made once more, so that a run in which a single allocation is refused ends as any
 //! other.
 
 use bytes::Bytes;

@@ -31,7 +31,7 @@ impl Words<'_> {
         Name::new(source, page, number as u32).unwrap()
     }
 
-    /// All names, with which the line ends.
+    /// All names up to the end of the line.
     pub fn last_names(&mut self, alloc: Global) -> Result<Vec<Name>, LineFault> {
         let names = self.names_before(alloc, None)?;
         self.end()?;

@@ -14,7 +14,7 @@ pub struct Range {
 }
 
 impl Range {
-    /// A number, or two with `..` between them, the second of which isn't below the first.
+    /// A number, or two with `..` between them. The second isn't below the first.
     pub fn read(text: &str, greatest: u32) -> Option<Range>
         ensures { IfSome result (λ range. range.last ≤ greatest) }
     {

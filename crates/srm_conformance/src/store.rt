@@ -19,7 +19,7 @@ use std::fmt;
 use std::fmt::{Display, Formatter};
 use std::io::Write;
 
-/// Plays the calls of a case, the first of which is made of an empty store.
+/// Plays the calls of a case, from an empty store on.
 pub fn play<O: Write>(alloc: Global, input: &[u8], out: &mut O) -> Result<(), PlayFault> {
     let store = match Store::new(alloc) {
         Err(_) => Store::new(alloc)?,

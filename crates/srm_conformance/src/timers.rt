@@ -20,7 +20,7 @@ pub struct Choosing {
 }
 
 impl Choosing {
-    /// Every member is as far away as one of which nothing is known, and each random number is 0.
+    /// Every member has the distance of one that nothing is known about, and each random number is 0.
     pub fn new(alloc: Global) -> Choosing {
         Choosing {
             distances: DistanceTable::new(),
@@ -51,12 +51,12 @@ pub fn read_setting(words: &mut Words<'_>) -> u8
     words.number(u64::from(GREATEST_TIMER_SETTING)) as u8
 }
 
-/// The words by which waits are chosen, with which the line ends. Behind them come zeros.
+/// Reads the random numbers that choose the waits, up to the end of the line. Behind them come zeros.
 pub fn read_listed(alloc: Global, words: &mut Words<'_>) -> Result<Listed, LineFault> {
     Ok(Listed::new(words.last_numbers(alloc)?))
 }
 
-/// Prints a line for each timer that was set: what for, the name, the exponent, the wait, and the distance by which it was chosen.
+/// Prints a line for each timer that was set: what for, the name, the exponent, the wait, and the distance that it was chosen from.
 pub fn tell_arms<O: Write>(out: &mut O, arms: &[Arm]) -> io::Result<()> {
     for arm in arms {
         tell_arm(out, Some(*arm))?;

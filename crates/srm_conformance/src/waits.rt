@@ -1,4 +1,4 @@
-//! Words, and the waits that they choose.
+//! Random numbers, and the waits that they choose.
 
 ghost use Rattle.std.specs.Prelude.{◌≤◌, ◌<◌, ◌^◌};
 
@@ -11,7 +11,7 @@ use srm_timers::{Listed, Pcg, Words, wait_between};
 use std::alloc::Global;
 use std::io::Write;
 
-/// Plays the calls of a case, over a list without words.
+/// Plays the calls of a case, over an empty list of random numbers.
 pub fn play<O: Write>(alloc: Global, input: &[u8], out: &mut O) -> Result<(), PlayFault> {
     let source = Source::Listed(Listed::new(Vec::new(alloc)));
     play_lines(&mut Calls { alloc, source }, input, out)
@@ -23,7 +23,7 @@ struct Calls {
     source: Source,
 }
 
-/// Where words come from.
+/// Where random numbers come from.
 #[derive(Drop)]
 enum Source {
     Listed(Listed),

@@ -104,7 +104,7 @@ impl<'a> Words<'a> {
         number
     }
 
-    /// All numbers, with which the line ends.
+    /// All numbers up to the end of the line.
     pub fn last_numbers(&mut self, alloc: Global) -> Result<Vec<u64>, LineFault> {
         let mut numbers = Vec::new(alloc);
         // A line ends, but a loop is to show it.
@@ -171,7 +171,7 @@ impl<'a> Words<'a> {
         read_hex(alloc, self.word())
     }
 
-    /// Four bytes, with which the line ends.
+    /// Four bytes, and the end of the line.
     pub fn last_mask(&mut self, alloc: Global) -> Result<u32, LineFault> {
         let mask = self.bytes(alloc)?;
         self.end()?;

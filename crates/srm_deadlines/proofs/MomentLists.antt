@@ -126,7 +126,7 @@ least_of_all above moments least h l = record {
   is_one = λ t e. let (j, from, below, at) = l.is_one t e in let (i, from', below', is) = (h.each j).is_one t at in (i, omega arith, stands_within moments i t is, is);
 }
 
--- ---- the first that has come
+-- ---- the first that has expired
 
 -- it stands in the block at which the search begins
 pub first_here : (now : ℕ) (moments : List (Option ℕ)) (low high : ℕ) (found : Option ℕ) (k : ℕ) → found ≡ Some k → high ≤ length moments → IsFirstIn now moments low high found → IsFirstIn now moments low (length moments) found
@@ -161,7 +161,7 @@ first_nowhere now above moments from high here over h whole none f none' g = rec
   come = λ k e. absurd (none-some k e);
 }
 
--- it stands in the first block whose least has come
+-- it stands in the first block whose least has expired
 pub first_later : (now : ℕ) (above moments : List (Option ℕ)) (from high j end : ℕ) (here over found : Option ℕ) → AreLeasts above moments → (high ≡ 16 * (from / 16) + 16) ⊎ (high ≡ length moments) → here ≡ None → IsFirstIn now moments from high here
     → over ≡ Some j → IsFirstIn now above (from / 16 + 1) (length above) over → (end ≡ 16 * j + 16) ⊎ (end ≡ length moments) → IsFirstIn now moments (16 * j) end found → IsFirstIn now moments from (length moments) found
 first_later now above moments from high j end here over found h whole none f some g ends last = record {
@@ -186,7 +186,7 @@ first_later now above moments from high j end here over found h whole none f som
         let inside : i < length moments = stands_within moments i t at in
         both_ways (has_come now (item_at moments i)) (last.none e i low (elim ends [ inl f ↦ omega arith | inr f ↦ omega arith ])) come
 
--- a block whose least has come stands within the list
+-- a block whose least has expired stands within the list
 pub block_within : (now : ℕ) (above moments : List (Option ℕ)) (j : ℕ) → AreLeasts above moments → has_come now (item_at above j) ≡ true → 16 * j < length moments
 block_within now above moments j h has =
     let (t, is) = come_some now (item_at above j) has in

@@ -14,7 +14,7 @@ use Rattle.srm_deadlines.specs.Least.{lesser}
 use Rattle.srm_deadlines.specs.MomentLists.{item_at, values_of, due_in, IsUnder, IsLeastIn, IsFirstIn, AreLeasts, Stands}
 use Rattle.srm_deadlines.specs.Places.{value_in, value_at, has_place, moment_among, KeepsPlaces, GivesPlaces, KeepsValues, Sets, SetsAll, ClearsAll, HasPlaces, IsLeast, place_names}
 
--- ---- places: three names, of which the second has no moment, and a fourth without a place
+-- ---- places: three names, the second without a moment, and a fourth without a place
 
 abbrev name : (source number : ℕ) → FullName
 name source number = named (record { source = source; page = first_page }) number
@@ -245,7 +245,7 @@ more_is_not_under h = let k : 40 ≤ 30 = h in absurd (omega arith)
 none_is_under_none_alone : IsUnder None (Some 30) → ⊥
 none_is_under_none_alone h = h
 
--- from the second on the third is the least and the first that has come
+-- from the second on the third is the least and the first that has expired
 least_of_two : IsLeastIn moments 1 3 (Some 30)
 least_of_two = record { under = λ i from below. go i from below; is_one = λ t e. (2, omega arith, omega arith, e) }
   where

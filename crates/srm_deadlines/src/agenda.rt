@@ -126,8 +126,8 @@ impl Agenda {
     }
 }
 
-/// Puts the names into a list in their order, in place of what it holds. Fails only if the list has too little room and no memory is
-/// left; what it holds is then open.
+/// Puts the names into a list in their order, in place of what it holds. Fails only if the list has too little room and memory ran out; its contents are then
+/// unspecified.
 pub fn put_names(names: &mut Vec<Name>, pairs: &[Timed]) -> Result<(), AllocError>
     ensures names { OnOk result (names.new.items ≡ names_of pairs.now) }
     ensures capacity { vec_capacity names.old ≤ vec_capacity names.new }

@@ -15,7 +15,9 @@ use std::marker::Model;
 /// A name that may have a value.
 #[derive(Clone, Copy, Debug)]
 pub struct NamedValue<V> {
+    /// The name.
     pub name: Name,
+    /// Its value, if it has one.
     pub value: Option<V>,
 }
 
@@ -67,7 +69,7 @@ impl<V: Copy> ByName<V> {
         }
     }
 
-    /// Whether a name has a place.
+    /// Returns whether a name has a place.
     pub fn has_place(&self, name: Name) -> bool
         ensures { result ≡ has_place self.now name }
     {

@@ -61,7 +61,7 @@ pub trait Deadlines {
 
     /// Puts the names whose deadlines have expired at `now` into a list, in order of name, in place of what it holds.
     ///
-    /// Fails only if the list has too little room for them and no memory is left; what it holds is then open.
+    /// Fails only if the list has too little room for them and memory ran out; its contents are then unspecified.
     fn due(&self, now: u64, names: &mut Vec<Name>) -> Result<(), AllocError>
         ensures names { OnOk result (AreExactly (λ n. has_come now (value_at (places self.now) n)) names.new.items) }
         ensures capacity { vec_capacity names.old ≤ vec_capacity names.new }

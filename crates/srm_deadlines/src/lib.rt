@@ -1,7 +1,7 @@
 //! Deadlines by name, and which of them have expired.
 //!
-//! [`Deadlines`] is the contract of three implementations. [`Tree`] keeps the first deadline of each block, so that setting, clearing
-//! and finding the next cost the logarithm of the names. [`Ordered`] keeps deadlines in order, and [`Scanned`] looks through them all:
+//! [`Deadlines`] is a trait with three implementations. [`Tree`] keeps the first deadline of each block, so that setting, clearing
+//! and finding the next cost the logarithm of the number of names. [`Ordered`] keeps deadlines in order, and [`Scanned`] looks through them all:
 //! tests compare with them. All three stand on [`ByName`], which has values of any kind by name.
 //!
 //! ```

@@ -8,7 +8,7 @@ use srm_names::has_come;
 use std::alloc::{AllocError, Global};
 use std::marker::Model;
 
-/// Moments in a list, each of which may be none: which is the least, and which has come.
+/// Deadlines in a list, each perhaps none: which is the first, and which have expired.
 ///
 /// Only [`push`](MomentList::push) takes memory.
 pub(crate) trait MomentList {
@@ -19,7 +19,7 @@ pub(crate) trait MomentList {
     fn len(&self) -> usize
         ensures { result ≡ length (moments self.now) };
 
-    /// Makes the list longer by one, with no moment there. Only want of memory refuses it.
+    /// Makes the list longer by one, with no moment there. Fails only if out of memory.
     fn push(&mut self) -> Result<(), AllocError>
         ensures each { (i : ℕ) → item_at (moments self.new) i ≡ item_at (moments self.old) i }
         ensures ok { OnOk result (length (moments self.new) ≡ length (moments self.old) + 1) }
@@ -40,7 +40,7 @@ pub(crate) trait MomentList {
     fn least(&self) -> Option<u64>
         ensures { IsLeastIn (moments self.now) 0 (length (moments self.now)) result };
 
-    /// The first index, from one on, at which a moment has come.
+    /// The first index, from one on, whose deadline has expired.
     fn first(&self, from: usize, now: u64) -> Option<usize>
         ensures { IsFirstIn now (moments self.now) from (length (moments self.now)) result };
 }
@@ -115,7 +115,7 @@ pub(crate) fn least_in(moments: &[Option<u64>], low: usize, high: usize) -> Opti
     least
 }
 
-/// The first index of a moment that has come, from one index up to another.
+/// The first index whose deadline has expired, from one index up to another.
 pub(crate) fn first_in(moments: &[Option<u64>], low: usize, high: usize, now: u64) -> Option<usize>
     requires order { low ≤ high }
     requires within { high ≤ length moments.now }

@@ -108,7 +108,7 @@ adds_at call d a place peer at lt here other = record {
   };
 }
 
--- what is made for a member of which nothing was heard
+-- what is made for a member that wasn't heard
 pub fits_new : (least me : ℕ) (p : Peer) → ((b : ℕ) → p ≡ peer_of [] b) → DistancesFit least me [] (record { me = me; least = least; peers = replicate 32 p })
 fits_new least me p h = record {
   least_is = refl;

@@ -62,7 +62,7 @@ only_to_oneself d m lt h = record {
   1 = λ same. at d.least d.me m d.peers d.table nobody lt h ∙ ap (λ k. distance_by d.least k m (get_or d.peers m nobody)) (sym same) ∙ to_oneself d.least m (get_or d.peers m nobody);
 }
 
--- what is made for members of which nothing was heard
+-- what is made for members that weren't heard
 pub kept_new : (least far me place : ℕ) (p : Peer) → SHORTEST_DISTANCE ≤ least → least ≤ LONGEST_DISTANCE → far ≡ estimate least None
     → place ≡ me → place < MEMBERS → p ≡ peer_of [] 0 → SentWithin p.newest_message
     → DistancesAreRight (record { me = me; least = least; peers = replicate 32 p; table = slice_set (replicate 32 far) place 0 })

@@ -15,7 +15,7 @@ pub record DistancesContent : Type 0 where
 abbrev pub content_of : Inside → DistancesContent
 content_of d = record { me = d.me; least = d.least; peers = d.peers }
 
--- the distance of me to a member of which this is kept
+-- the distance from me to a member, if this is kept about it
 abbrev pub distance_by : ℕ → ℕ → ℕ → Peer → ℕ
 distance_by least me member peer = if member == me then 0 else estimate least peer.returned
 

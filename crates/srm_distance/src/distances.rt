@@ -17,7 +17,7 @@ use std::marker::Model;
 
 /// The distances from one member to the others, measured by their session messages.
 ///
-/// All moments, times and distances are microseconds. Moments are by this member's clock, but for the moment at which another sent.
+/// All moments, times and distances are microseconds. Moments are by this member's clock; when another sent is by the other's.
 #[derive(Debug, Drop)]
 pub struct Distances {
     me: Member,
@@ -167,7 +167,7 @@ impl Distances {
     }
 }
 
-/// The distance of a member to another, or to itself, of which this is kept.
+/// The distance from a member to another, or to itself, if this is kept about the other.
 fn distance_by(least: u64, me: Member, member: Member, peer: Peer) -> u64
     requires { least ≤ LONGEST_DISTANCE }
     ensures { result ≡ distance_by least me member peer }

@@ -23,7 +23,7 @@ impl Peer {
     ghost use Rattle.srm_distance.specs.Echoes.{SentWithin};
     ghost use Rattle.srm_distance.specs.Peers.{peer_of, echo_owed_by};
 
-    /// A member of which nothing was heard.
+    /// A member that wasn't heard.
     pub(crate) fn unknown() -> Peer
         ensures fits { (b : ℕ) → result ≡ peer_of [] b }
         ensures range { SentWithin result.newest_message }

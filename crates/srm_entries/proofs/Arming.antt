@@ -43,8 +43,8 @@ find-coarser p q (y ∷ ys) x e = coarser_at x y (p y) (q y) (find p ys) (find (
 
 -- arms
 
--- the settings that the law asks for: an ask with an exponent, where these are all entries with this one,
--- and a fix for who asked, where these are the entries before
+-- the settings that the law asks for: a request timer with an exponent, where these are all entries with this one, and a repair timer for who asked, where these are
+-- the entries before
 abbrev pub ask_at : Config → List Entry → FullName → ℕ → WaitBasis
 ask_at c entries n i = record { kind = Ask; exponent = i; distance = distance c entries n.stream.source }
 

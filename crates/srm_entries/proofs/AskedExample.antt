@@ -66,7 +66,7 @@ gap_right = record {
   state = refl;
 }
 
--- the arms and the asks of the tick
+-- the arms of the tick, and the names that it requests
 
 never_held : (k : ℕ) → (k == 1) ≡ true → ((2 == k) || false) ≡ false
 never_held k e = grind (arith, nat_tests)

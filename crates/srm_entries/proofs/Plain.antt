@@ -42,7 +42,7 @@ use Rattle.srm_entries.specs.Sample.{first_stream, quiet, entry, first_drawop}
 abbrev pub plain : ℕ → ℕ → Input → Option Drawop → List Datagram → Option PageMsg → AgentState → Entry
 plain m now input drawn outs message after = entry m now input (record (quiet after) { drawn = drawn; outs = outs; message = message })
 
--- the first drawop is the only one of these examples: the entry by which it is drawn, and its datum
+-- the first drawop is the only one of these examples: the entry that draws it, and its datum
 abbrev pub draws_one : Entry
 draws_one = plain 0 1 (Drew first_page (97 ∷ [])) (Some first_drawop) [] None Active
 

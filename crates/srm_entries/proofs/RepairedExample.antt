@@ -161,6 +161,6 @@ run = record {
   bucket = (goings, refl, (idle_right refl, (idle_right refl, (record { same = refl; at_ticks = tt }, tt))), law);
 }
 
--- the law says that by this tick a repair was heard or handed out
+-- the law says that by this tick a repair was heard or made
 pub answered : list_any (repaired (named first_stream 1)) (repairs ∷ []) ≡ true
 answered = (response_law two_of_four 5000000 (holds ∷ asked ∷ repairs ∷ []) run).fixed (holds ∷ []) [] [] asked repairs (named first_stream 1) (record { set = 5000000; arm = fix_arm 1 100000 }) refl refl refl refl (lit≤ tt)

@@ -109,7 +109,7 @@ unheld_before es more n h = go (is_held es n) refl
     go false e = refl
     go true e = sym (held_more es more n e) ∙ h
 
--- each missing name has an ask arm
+-- each missing name has a request timer
 
 some_first : {X : Type 0} (a b : Option X) → is_some a ≡ true → is_some (or_else a b) ≡ true
 some_first None b e = absurd (cc)

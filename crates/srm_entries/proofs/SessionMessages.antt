@@ -59,7 +59,7 @@ row_of_number rows s k e = go (find (λ (n : FullName). same_stream s n.stream) 
     go None q f = absurd (cc)
     go (Some n) q f = let found = find-Has (λ (n : FullName). same_stream s n.stream) rows n q in (n, found.0, found.1, cc)
 
--- the session_message names each stream of the page of which its sender knew
+-- the session_message names each stream of the page that its sender knew of
 row_said : (c : Config) (before : List Entry) (e : Entry) (source : ℕ) (page : Page) (rows : List FullName) → Says c before e page rows
     → nat_lt source c.members ≡ true → 1 ≤ known before (stream_on source page) → number_in_rows rows (stream_on source page) ≡ Some (known before (stream_on source page))
 row_said c before e source page rows r m k =

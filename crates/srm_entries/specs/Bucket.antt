@@ -58,7 +58,7 @@ pub record Going : Type 0 where
   pub entry : Entry
   pub goes : List (Classed Datagram)
 
--- an entry in which nothing goes
+-- an entry that sends nothing
 abbrev pub idle : Entry → Going
 idle e = record { entry = e; goes = [] }
 

@@ -55,7 +55,7 @@ refusals_dont_count = refl
 ignored_ones_count : last_moment 0 (ticked_once ++ ignored_late ∷ []) ≡ 9000
 ignored_ones_count = refl
 
--- new pages: one more than the greatest number of one's own in the table
+-- new pages: one more than the greatest number of the member's pages in the table
 abbrev drawn_on_page : Page → ℕ → Entry
 drawn_on_page p me = draws me 1 (record { name = named (stream_on me p) 1; stamp = 1; body = [] })
 
@@ -145,7 +145,7 @@ fifteen_left = refl
 no_echo_to_it : map (λ e. e.member) (echoes_owed (in_roster 0 16 4204) one_left 5) ≡ 1 ∷ 2 ∷ count_up 4 12
 no_echo_to_it = refl
 
--- rows: of the page shown in a session_message, of one's own on all pages in a farewell
+-- rows: of the page shown in a session_message, of the member's streams on all pages in a farewell
 abbrev drew_on_two : List Entry
 drew_on_two = drawn_on_page first_page 0 ∷ drawn_on_page (page 1 3) 0 ∷ hears 0 2 (Data (record { name = named (stream_on 1 first_page) 4; stamp = 0; body = [] })) [] ∷ []
 

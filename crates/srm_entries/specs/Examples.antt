@@ -110,7 +110,7 @@ mixed : map (basis_of (config 2) holds_two (hears 2 10 (Request 1 (named first_s
 unfolding bits_set
 mixed = refl
 
--- the waits that an arm may have: from 2 to 4 distances at first, doubled with each exponent
+-- the waits that a timer may have: from 2 to 4 distances at first, doubled with each exponent
 ask_waits : map (λ i. low_of (config 1) (ask_arm 1 i 0)) (0 ∷ 1 ∷ 8 ∷ []) ≡ 200000 ∷ 400000 ∷ 51200000 ∷ []
 ask_waits = refl
 
@@ -123,7 +123,7 @@ fix_waits = refl
 fix_waits_at_most : high_of (config 1) (fix_arm 1 0) ≡ 200000
 fix_waits_at_most = refl
 
--- the arms of the gap, as a whole: waits and order
+-- the timers of the gap, as a whole: waits and order
 gap_in_order : ascending name_below (map (λ a. a.name) gap.effects.arms) ≡ true
 gap_in_order = refl
 

@@ -69,7 +69,7 @@ moments_1 = refl
 moments_right : AllByRecursion (λ (s : Step Entry). MomentRight (config 1) 0 s.before s.this) (steps heard_by_1)
 moments_right = (lit≤ tt, (lit≤ tt, (lit≤ tt, (lit≤ tt, tt))))
 
--- arms: the third drawop, heard first, makes the first two missing
+-- timers: the third drawop, heard first, makes the first two missing
 arms_0 : at_each (λ s. map (basis_of (config 0) s.before s.this) four_names) member_0 ≡ replicate 4 (None ∷ None ∷ None ∷ None ∷ [])
 arms_0 = refl
 

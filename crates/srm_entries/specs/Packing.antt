@@ -6,7 +6,7 @@ use Rattle.srm_codec.specs.declared.format.TheConstants.{MASK_BITS}
 use Rattle.srm_codec.specs.declared.datagram.Datagram.{Datagram}
 use Rattle.srm_codec.specs.declared.datagram.Datagram.TheVariants.{Request}
 
--- the ask is named by a request that begins at this one
+-- the name is asked for by a request that begins at this one
 abbrev pub is_covered : FullName → FullName → Bool
 is_covered first n = same_stream first.stream n.stream && nat_lt first.number n.number && nat_le n.number (first.number + MASK_BITS)
 

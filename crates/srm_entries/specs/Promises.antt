@@ -22,7 +22,7 @@ page_to_come c es =
     if nat_le PAGES (length (slots es)) || nat_le PAGE_NUMBERS (next_number c.me (slots es)) then None
     else Some (record { creator = c.me; number = next_number c.me (slots es) })
 
--- an entry hands out and sends nothing
+-- an entry requests, repairs and sends nothing
 pub record DoesNothing (e : Entry) : Type 0 where
   pub asks : e.effects.asks ≡ []
   pub fixes : e.effects.fixes ≡ []
@@ -36,8 +36,8 @@ MayDoNothing c made es now = (e : Entry) × (e.input ≡ Ticked) × (e.moment �
 abbrev pub NothingIsDue : Config → ℕ → List Entry → ℕ → Type 0
 NothingIsDue c made es now = (e : Entry) → e.input ≡ Ticked → e.moment ≡ now → IsMemberRun c made (es ++ e ∷ []) → DoesNothing e
 
--- The least moment, not below the last one, at which a tick would hand out or send something: before it a tick may come, and does
--- nothing; at it none that may come does nothing. There is none where the member is gone, and then no tick does anything.
+-- The least moment, not below the last one, when a tick would request, repair or send something: before it a tick may come, and does nothing; at it none that may
+-- come does nothing. There is none where the member is gone, and then no tick does anything.
 abbrev pub IsNextDue : Config → ℕ → List Entry → Option ℕ → Type 0
 IsNextDue c made es None = (is_gone (state es) ≡ true) × ((u : ℕ) → NothingIsDue c made es u)
 IsNextDue c made es (Some t) = (is_gone (state es) ≡ false) × (last_moment made es ≤ t)

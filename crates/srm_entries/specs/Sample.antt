@@ -77,7 +77,7 @@ entry m now input effects = record { member = m; moment = now; input = input; ve
 abbrev pub draws : ℕ → ℕ → Drawop → Entry
 draws m now d = entry m now (Drew d.name.stream.page d.body) (record (quiet Active) { drawn = Some d })
 
--- a datagram that was accepted, with these arms
+-- a datagram that was accepted and set these timers
 abbrev pub hears : ℕ → ℕ → Datagram → List Arm → Entry
 hears m now g arms = entry m now (Heard g) (record (quiet Active) { arms = arms })
 

@@ -107,7 +107,7 @@ drawn_0 = refl
 drawn_by_others : at_each (λ s. expected_drawop (trio 1) s.before s.this.moment (done s.this)) (member_1 ++ member_2) ≡ replicate 19 None
 drawn_by_others = refl
 
--- arms: a request when the third drawop shows the gap, and again when it asks
+-- timers: a request timer when the third drawop shows the gap, and again when the member requests
 arms_0 : at_each (λ s. map (basis_of (trio 0) s.before s.this) four_names) member_0 ≡ replicate 6 none_of_four
 arms_0 = refl
 
@@ -125,7 +125,7 @@ arms_are_these : map (λ (e : Entry). map (λ n. option_map wait_basis (arm_of n
 unfolding bits_set
 arms_are_these = refl
 
--- timers: the ask at 200,031 and not a microsecond sooner, the repair at 100,100
+-- timers: the request at 200,031 and not a microsecond sooner, the repair at 100,100
 asks_at_ticks : at_each (λ s. map (λ n. ask_due s.before n s.this.moment) four_names) before_repair
     ≡ four_false ∷ four_false ∷ four_false ∷ four_false ∷ four_false ∷ four_false ∷ four_false ∷ (false ∷ true ∷ false ∷ false ∷ []) ∷ []
 asks_at_ticks = refl

@@ -1,4 +1,4 @@
--- Request and repair timers: which arms an entry holds, and which timers a tick hands out.
+-- Request and repair timers: which an entry sets, and which a tick ends.
 use Rattle.std.specs.Prelude.{ℕ, ◌+◌, ◌*◌, ◌≤◌, nat_lt, Bool, false, not, ◌&&◌, ◌||◌, List, [], ◌∷◌, ◌++◌, find, if◌then◌else◌, Option, Some, None, unwrap_or, option_map, is_some}
 use Rattle.std.specs.List.{list_any, AllByRecursion}
 use Rattle.srm_names.specs.FullName.{FullName}
@@ -28,7 +28,7 @@ arm_in kind n e =
 abbrev pub last_ask : List Entry → FullName → Option Armed
 last_ask es n = last_of (arm_in Ask n) es
 
--- who asks for the name
+-- who requests the name
 abbrev pub asker_in : FullName → Option Datagram → Option ℕ
 asker_in n (Some (Request sender name mask)) = if among (asked_by name mask) n then Some sender else None
 asker_in n _ = None
@@ -43,7 +43,7 @@ abbrev pub repairs_in : FullName → Option Datagram → Bool
 repairs_in n (Some (Repair sender drawop)) = same_name n drawop.name
 repairs_in n _ = false
 
--- a repair of the name was heard or handed out
+-- a repair of the name was heard or made
 abbrev pub repaired : FullName → Entry → Bool
 repaired n e = repairs_in n (accepted e) || among e.effects.fixes n
 
@@ -68,15 +68,15 @@ holds_off c n now s =
 abbrev pub held_off : Config → List Entry → FullName → ℕ → Bool
 held_off c es n now = list_any (holds_off c n now) (steps es)
 
--- the repair timer that runs: the last one set since a repair was heard or handed out
+-- the repair timer that runs: the last one set since a repair was heard or made
 abbrev pub fix_running : List Entry → FullName → Option Armed
 fix_running es n = last_of (arm_in Fix n) (since (repaired n) es)
 
 abbrev pub fix_due : List Entry → FullName → ℕ → Bool
 fix_due es n now = not (is_gone (state es)) && ran_out now (fix_running es n)
 
--- The exponent with which the entry arms a request for the name:
--- where the name becomes missing, where a request for it is heard that isn't ignored, and where the member asks itself.
+-- The exponent of the request timer that the entry sets for the name:
+-- it sets a timer where the name becomes missing, where a request for it is heard that isn't ignored, and where the member requests it itself.
 abbrev pub ask_exponent : List Entry → Entry → FullName → Option ℕ
 ask_exponent before e n =
     if is_missing before n
@@ -87,7 +87,7 @@ abbrev pub ask_basis_of : Config → List Entry → Entry → FullName → Optio
 ask_basis_of c before e n =
     option_map (λ i. ask_basis i (distance c (before ++ e ∷ []) n.stream.source)) (ask_exponent before e n)
 
--- a request for a held name arms a repair, where none runs and the name isn't held off
+-- a request for a held name sets a repair timer, if none runs and the name isn't held off
 abbrev pub fix_basis_of : Config → List Entry → Entry → FullName → Option WaitBasis
 fix_basis_of c before e n =
     if is_held before n && not (is_some (fix_running before n)) && not (held_off c before n e.moment)
@@ -97,7 +97,7 @@ fix_basis_of c before e n =
 abbrev pub basis_of : Config → List Entry → Entry → FullName → Option WaitBasis
 basis_of c before e n = if is_held before n then fix_basis_of c before e n else ask_basis_of c before e n
 
--- the ends of the range from which the wait of an arm is chosen
+-- the ends of the range that a timer's wait is chosen from
 abbrev pub low_of : Config → Arm → ℕ
 low_of c a = times a.kind
   where
@@ -112,12 +112,12 @@ high_of c a = times a.kind
     times Ask = timers.high_of c.c1 c.c2 a
     times Fix = (c.d1 + c.d2) * a.distance
 
--- the entry holds these arms and no others, in order of name
+-- the entry sets these timers and no others, in order of name
 pub record ArmsRight (c : Config) (before : List Entry) (e : Entry) : Type 0 where
   pub are : ArmsAre (basis_of c before e) e.effects.arms
   pub waits : AllByRecursion (λ a. (low_of c a ≤ a.wait) × (a.wait ≤ high_of c a)) e.effects.arms
 
--- A tick hands out exactly the requests and repairs whose timers ran out. No other entry hands out any.
+-- A tick requests and repairs exactly the names whose timers ran out. No other entry does.
 pub record TimersRight (before : List Entry) (e : Entry) : Type 0 where
   pub asks : AreExactly (λ n. ticked e && ask_due before n e.moment) e.effects.asks
   pub fixes : AreExactly (λ n. ticked e && fix_due before n e.moment) e.effects.fixes

@@ -1,4 +1,4 @@
--- The definitions at worked examples: how long arms wait, when they end, and what is then asked and repaired.
+-- The definitions at worked examples: how long timers wait, when they end, and what is then requested and repaired.
 use Rattle.std.specs.Prelude.{◌≡◌, ℕ, ◌-◌, List, [], ◌∷◌, ◌++◌, map, replicate, true, false, Option, Some, None, option_map, refl}
 use Rattle.srm_names.specs.declared.drawop.Drawop.{Drawop}
 use Rattle.srm_names.specs.Names.{first_page, named, names_up_to}
@@ -22,11 +22,11 @@ use Rattle.srm_entries.specs.Packing.{packed}
 use Rattle.srm_entries.specs.Bucket.{classed, idle}
 use Rattle.srm_entries.specs.Sample.{first_stream, drawop_of, hears, ticks, ask_arm, fix_arm, ask_set, fix_set, at_each, let_go, gap, in_roster, one_of_four, asked}
 
--- all words of a list go to the waits of these arms
+-- all random numbers of a list go to the waits of these timers
 abbrev WaitsBy : Config → List Arm → List ℕ → Type 0
 WaitsBy c arms words = AreChosen next_listed (low_of c) (high_of c) words arms []
 
--- the wait is the word's remainder above the lower end
+-- the wait is the random number's remainder above the lower end
 first_wait : WaitsBy one_of_four (ask_arm 1 0 200000 ∷ []) (0 ∷ [])
 first_wait = (refl, refl)
 
@@ -39,7 +39,7 @@ from_the_start_again = (refl, refl)
 abbrev near_arm : ℕ → ℕ → ℕ → Arm
 near_arm number exponent wait = record { kind = Ask; name = named first_stream number; exponent = exponent; distance = 1; wait = wait }
 
--- one word for each arm
+-- one random number for each arm
 near_waits : WaitsBy one_of_four (near_arm 1 0 2 ∷ near_arm 2 0 3 ∷ near_arm 3 0 4 ∷ near_arm 4 0 2 ∷ []) (0 ∷ 1 ∷ 2 ∷ 3 ∷ [])
 near_waits = (refl, (refl, (refl, (refl, refl))))
 
@@ -72,7 +72,7 @@ ignored_and_still_taken = refl
 end_after_both : ends (backed_off ++ asked 1250000 (ask_arm 1 2 800000 ∷ []) ∷ []) ≡ Some (2050000, 1650000) ∷ []
 end_after_both = refl
 
--- an ask at each end: the wait doubles, up to exponent 8
+-- a request timer at each end: the wait doubles, up to exponent 8
 abbrev asks_at : ℕ → ℕ → ℕ → Entry
 asks_at now exponent wait = ticks 1 now (named first_stream 1 ∷ []) [] (ask_arm 1 exponent wait ∷ []) []
 
@@ -111,7 +111,7 @@ request_for_the_third : map (basis_of one_of_four [] (hears 1 1000000 (Request 2
 unfolding bits_set
 request_for_the_third = refl
 
--- the tick before the ask sends the session message, and the tick of the ask the request
+-- the tick before sends the session message, and this one the request
 abbrev session_message : Datagram
 session_message = Session 1 1199999 false first_page (named first_stream 2 ∷ []) []
 

@@ -14,7 +14,7 @@ pub enum Cause {
     Gone,
     /// It brings a drawop under a name that is held with another stamp or body.
     Conflict,
-    /// It names pages that find no slot.
+    /// It names pages that find no page slot.
     PageLimit,
     /// It names a number above the last of a source that left, or of this member's own above what it drew; or it is a
     /// farewell that says less than is known.

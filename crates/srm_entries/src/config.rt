@@ -120,7 +120,7 @@ impl Config {
         self.session
     }
 
-    /// Returns the rate in bytes a second.
+    /// Returns the rate in bytes a second, 1 to 100,000,000.
     pub fn rate(&self) -> u32
         ensures value { result ≡ self.now.rate }
         ensures least { LEAST_RATE ≤ result }
@@ -129,7 +129,7 @@ impl Config {
         self.rate
     }
 
-    /// Returns the depth of the bucket in bytes.
+    /// Returns the depth of the bucket in bytes, 1,051 to 1,000,000.
     pub fn depth(&self) -> u32
         ensures value { result ≡ self.now.depth }
         ensures least { LEAST_DEPTH ≤ result }
@@ -138,7 +138,7 @@ impl Config {
         self.depth
     }
 
-    /// Returns how many distances a request waits at least.
+    /// Returns how many distances a request waits at least, 0 to 16.
     pub fn c1(&self) -> u8
         ensures value { result ≡ self.now.c1 }
         ensures range { result ≤ GREATEST_TIMER_SETTING }

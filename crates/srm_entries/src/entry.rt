@@ -24,18 +24,22 @@ pub enum Input {
     Heard(Datagram),
     /// Bytes came that spell no datagram of the session, or that came to a member that is gone.
     Noise,
+    /// The caller let the member do what was due.
     Ticked,
+    /// A page was shown.
     Showed(Page),
+    /// The member was asked to leave.
     AskedLeave,
     /// The caller asked for the next message of a page slot, 0 to 7.
     Gave(u8),
-    /// The page worker of a slot, 0 to 7, took its next message.
+    /// The worker of a page slot, 0 to 7, took its next message.
     Took(u8),
 }
 
 /// What became of a call.
 #[derive(Clone, Copy, Debug, PartialEq, Eq)]
 pub enum Verdict {
+    /// The call was done; a datagram was accepted.
     Done,
     /// The datagram was ignored. Nothing but the last moment changed.
     Ignored(Cause),
@@ -46,6 +50,7 @@ pub enum Verdict {
 /// What a call did.
 #[derive(Debug, Drop)]
 pub struct Effects {
+    /// The drawop that was drawn, if the call drew one.
     pub drawn: Option<Drawop>,
     /// The timers that were set, in order of name.
     pub arms: Items<Arm>,
@@ -62,7 +67,7 @@ pub struct Effects {
 }
 
 impl Effects {
-    /// Whether the member sent its farewell by this. A gone member sends nothing more.
+    /// Returns whether the member sent its farewell by this. A gone member sends nothing more.
     pub fn becomes_gone(&self) -> bool
         ensures { result ≡ becomes_gone self.now }
     {
@@ -73,16 +78,20 @@ impl Effects {
 /// One call of one member's agent.
 #[derive(Debug, Drop)]
 pub struct Entry {
+    /// The member whose agent was called.
     pub member: Member,
     /// The moment that counted, in microseconds; for a give or a take the last one.
     pub moment: u64,
+    /// What the call was given.
     pub input: Input,
+    /// What became of the call.
     pub verdict: Verdict,
+    /// What the call did.
     pub effects: Effects,
 }
 
 impl Entry {
-    /// Makes an entry without effects, but perhaps with a message. Takes no memory.
+    /// Makes an entry without effects, but perhaps with a message, at a moment in microseconds. Takes no memory.
     pub fn without_effects(
         alloc: Global,
         member: Member,

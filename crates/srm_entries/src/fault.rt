@@ -15,7 +15,7 @@ pub enum AgentFault {
     /// The member has left.
     #[error("the member has left")]
     Gone = 2,
-    /// The page has no slot, and none is free.
+    /// The page has no page slot, and none is free.
     #[error("the table has no slot for another page")]
     PageLimit = 3,
     /// The stream has 65,536 drawops.

@@ -8,9 +8,13 @@ use srm_codec::Datagram;
 /// The kinds of datagrams.
 #[derive(Clone, Copy, Debug, PartialEq, Eq)]
 pub enum DatagramKind {
+    /// A new drawop.
     Data,
+    /// A request for missing drawops.
     Request,
+    /// A drawop that a member sends again.
     Repair,
+    /// A session message; a farewell is one too.
     Session,
 }
 

@@ -1,7 +1,10 @@
 //! The rules of the protocol, as definitions over entries, and the laws that follow from them.
 //!
 //! An *entry* says who called when, with what, and what it did. `specs/` defines what is held, known and missing after a list of
-//! entries, which timers run, what may be sent, and so which entry a member may make next. The laws hold of every such list.
+//! entries, which timers run, what may be sent, and so which entry a member may make next. The laws hold of every list that is made so.
+//!
+//! An [`Entry`] has an [`Input`], a [`Verdict`] and [`Effects`]. A call is refused with an [`AgentFault`]. A datagram is accepted, or ignored with a [`Cause`]: its
+//! [`Outcome`]. The laws are [`responds`], [`gives`] and [`keeps_rate`].
 //!
 //! [`Config`] and [`Settings`] are what a member is made with:
 //!

@@ -2,10 +2,10 @@
 
 use srm_bucket::GREATEST_LENGTH;
 
-/// The rate of a member that names none, in bytes a second.
+/// The rate of a member that names none: 8,000 bytes a second.
 pub const DEFAULT_RATE: u32 = 8_000;
 
-/// The depth of its bucket, in bytes: four of the longest datagrams that are charged.
+/// The depth of its bucket, 4,204 bytes: four of the longest datagrams that are charged.
 pub const DEFAULT_DEPTH: u32 = 4 * GREATEST_LENGTH;
 
 /// Microseconds of a second.

@@ -15,7 +15,7 @@ pub enum AgentState {
 }
 
 impl AgentState {
-    /// Whether the member has sent its farewell. One that is leaving isn't gone.
+    /// Returns whether the member has sent its farewell. One that is leaving isn't gone.
     pub fn is_gone(self) -> bool
         ensures { result ≡ is_gone self }
     {

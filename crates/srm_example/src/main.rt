@@ -1,7 +1,7 @@
-//! Two members of one session in one program. One draws three strokes, of which the second is lost on its way; the other asks for it, is
+//! Two members of one session in one program. One draws three strokes, and the second is lost on its way; the other asks for it, is
 //! repaired, and gets all three in order.
 //!
-//! The program is the network too: what a tick sends comes to the other member at once. A program of your own sends it to all others.
+//! The program is the network too: what a tick sends comes to the other member at once. Your program sends it to all others.
 #![tactic(auto)]
 
 mod printed;
@@ -33,7 +33,7 @@ const LOST: usize = 1;
 /// The last moment, in microseconds: by then what was lost is repaired, and no session message is due.
 const END: u64 = 900_000;
 
-/// The slot of the first page, which each member has from the start. Who calls `give` shows that a slot is below 8.
+/// The slot of the first page, which each member has from the start. The caller of `give` shows that a slot is below 8.
 const FIRST_SLOT: u8 = 0;
 
 fn main(rt: HostRuntime) -> anyhow::Result<()> {
@@ -54,7 +54,7 @@ fn play<O: Write>(alloc: Global, out: &mut O) -> anyhow::Result<()> {
     print_given(&mut listener, out)
 }
 
-/// The agent of one member, made at moment 0. Its number is the seed of the words by which it chooses its waits: members that choose by the same words
+/// The agent of one member, made at moment 0. Its number is the seed of the random numbers that choose its waits: members with the same random numbers
 /// would ask and answer all at once.
 fn join(alloc: Global, number: u8) -> anyhow::Result<Agent<Pcg>> {
     let me = Member::new(number).context("no such member")?;
@@ -79,8 +79,8 @@ fn tick_both<O: Write>(
     Ok(())
 }
 
-/// The first moment at which a member has something to do, and none where that is past the end. An agent may name one past 2^48, which
-/// its calls don't take: who calls `tick` shows that a moment is within it.
+/// The first moment when a member has something to do, or none if that is past the end. An agent may name one past 2^48, which
+/// its calls don't take: the caller of `tick` shows that a moment is within it.
 fn next_due(drawer: &Agent<Pcg>, listener: &Agent<Pcg>) -> Option<u64>
     ensures { IfSome result (λ now. now ≤ END) }
 {

@@ -1,4 +1,4 @@
--- The numbers by which C reads what calls answer.
+-- The numbers that calls return to C.
 use Rattle.std.specs.Prelude.{ℕ, Option, Some, None, Result, Ok, Err}
 use Rattle.srm_codec.specs.declared.fault.DecodeFault.{DecodeFault}
 use Rattle.srm_codec.specs.declared.fault.DecodeFault.TheVariants as decode

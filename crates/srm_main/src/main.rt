@@ -64,7 +64,7 @@ fn texts_of<'a>(alloc: Global, arguments: &'a [String]) -> Result<Vec<&'a str>, 
     arguments.iter().map(|word| word.as_str()).collect(alloc)
 }
 
-/// Prints why the command line can't be read, and answers the status.
+/// Prints why the command line can't be read, and returns the status.
 fn tell_arguments<E: Write>(error: &io::Error, err: &mut E) -> u8 {
     match error.kind() {
         ErrorKind::OutOfMemory => ScriptFault::Memory.print(err),

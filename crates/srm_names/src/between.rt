@@ -9,7 +9,7 @@ use crate::name::Name;
 use crate::stream::Stream;
 use std::alloc::{AllocError, Global};
 
-/// Returns the names of a stream whose numbers are above `above` and below `below`, in order of number.
+/// Returns the names of a stream whose numbers are above `above`, at most 65,536, and below `below`, at most 65,537, in order of number.
 ///
 /// Fails only if out of memory. Costs one list of as many names.
 pub fn names_between(

@@ -6,11 +6,14 @@ use crate::name::Name;
 use bytes::Bytes;
 use std::alloc::AllocError;
 
-/// A stroke with its name, the moment in microseconds at which it was drawn, and its bytes.
+/// A stroke: its name, when it was drawn, and its bytes.
 #[derive(Debug, Drop, PartialEq, Eq)]
 pub struct Drawop {
+    /// Its name.
     pub name: Name,
+    /// The moment when it was drawn, in microseconds of its source's clock, at most 2^48.
     pub stamp: u64,
+    /// Its bytes, at most 1,024, which the protocol doesn't interpret.
     pub body: Bytes,
 }
 

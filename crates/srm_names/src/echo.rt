@@ -7,8 +7,8 @@ use crate::member::Member;
 pub struct Echo {
     /// The member whose message it was.
     pub member: Member,
-    /// The moment in microseconds at which it sent the message, by its own clock.
+    /// The moment when it sent the message, in microseconds of its clock, at most 2^48.
     pub t1: u64,
-    /// Microseconds since the message was heard.
+    /// Microseconds since the message was heard, at most 2^48.
     pub delay: u64,
 }

@@ -1,6 +1,12 @@
 //! Members, pages, the names of drawops, what a page worker is given, and the limits of a session.
 //!
-//! A name belongs to one drawop for ever. A `Name` is within its range or doesn't exist, and is copied freely:
+//! A [`Drawop`] is a stroke with its [`Name`]; a [`Stream`] is what one source draws on one [`Page`]. A page worker is given [`PageMsg`]s. A session message carries
+//! [`Echo`]es, which other members measure distances by. [`Items`] is a list that contracts see.
+//!
+//! The limits are constants: [`MEMBERS`], [`PAGES`], [`PAGE_NUMBERS`], [`DRAWOPS`], [`LONGEST_BODY`], [`LATEST_MOMENT`], [`LONGEST_DISTANCE`], [`LANE_MESSAGES`],
+//! [`WELL_STROKES`], [`PENS`], [`VIEWERS`].
+//!
+//! A name belongs to one drawop for ever. A `Name` out of range can't be made. It is copied freely:
 //!
 //! ```
 //! let source = Member::new(0)?;

@@ -3,7 +3,7 @@
 /// Members of a session. They have the numbers from 0 to one below this.
 pub const MEMBERS: u8 = 32;
 
-/// Pages in one member's table.
+/// Page slots of a member: it has at most 8 pages.
 pub const PAGES: u8 = 8;
 
 /// Pages that one member makes, at most. They have the numbers from 0 to one below this.

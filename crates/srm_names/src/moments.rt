@@ -3,7 +3,7 @@
 ghost use Rattle.std.specs.Prelude.{◌≡◌};
 ghost use Rattle.srm_names.specs.Moments.{has_come};
 
-/// Whether a deadline has expired at `now`. `None` never expires.
+/// Returns whether a deadline has expired at `now`: whether it isn't after it. Both are microseconds of one clock. `None` never expires.
 pub fn has_come(moment: Option<u64>, now: u64) -> bool
     ensures { result ≡ has_come now moment }
 {

@@ -75,7 +75,7 @@ impl Name {
         self.number
     }
 
-    /// Whether this name comes before `other`, as `<` says.
+    /// Returns whether this name comes before `other`, as `<` says.
     pub fn is_before(self, other: Name) -> bool
         ensures { result ≡ name_below self other }
     {
@@ -93,8 +93,8 @@ impl Stream {
     }
 }
 
-/// The law that the order of names is total: of two different names one is before the other, no name is before itself, and a name
-/// that is before another is before all behind it.
+/// States the law that the order of names is total, and does nothing: of two different names one is before the other, no name is before itself, and a name that is
+/// before another is before all behind it.
 pub fn names_are_in_order()
     ensures { IsTotalOrderOfNames }
 {}

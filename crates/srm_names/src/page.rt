@@ -7,7 +7,9 @@ use crate::member::Member;
 /// A page, by the member that began it and a number local to that member. The first page is number 0 of member 0.
 #[derive(Clone, Copy, Debug, PartialEq, Eq, PartialOrd, Ord, Hash)]
 pub struct Page {
+    /// The member that began it.
     pub creator: Member,
+    /// Its number among the pages of that member, 0 to 65,535.
     pub number: u16,
 }
 

@@ -16,7 +16,7 @@ fn config() -> Option<Config> {
     srm_rig_members::config(0, 2)
 }
 
-/// A new node over a wire that answers these, and its taps; its pens are gone. None where memory ran out.
+/// A new node over a wire that answers these, and its taps; its producers are gone. None where memory ran out.
 pub fn new_node(alloc: Global, datagrams: Vec<Vec<u8>>) -> Option<(BenchNode, Vec<Tap>)> {
     let wire = Replay::new(datagrams);
     match Station::new(alloc, config()?, Pcg::new(0), wire, Still) {

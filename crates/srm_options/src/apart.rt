@@ -2,7 +2,7 @@
 
 use std::net::SocketAddr;
 
-/// Returns whether no later address is the first one, or the first has port 0, for which the system chooses one.
+/// Returns whether no later address is the first one, or the first has port 0, so that the system chooses one.
 pub fn is_first_apart(addresses: &[SocketAddr]) -> bool {
     match addresses {
         [] => true,

@@ -33,7 +33,7 @@ impl<R: Net> Resolve for System<R> {
     }
 }
 
-// The two kinds of addresses, of which no member of one reaches a member of the other.
+// The two kinds of addresses. A member with one kind doesn't reach a member with the other.
 #[derive(Clone, Copy)]
 enum Family {
     V4,

@@ -28,7 +28,9 @@ use std::collections::VecDeque;
 /// A request or a repair to hand in to the bucket, with its class.
 #[derive(Drop)]
 pub struct DueItem {
+    /// Its class in the bucket.
     pub class: Class,
+    /// The datagram, with the bytes that it is charged.
     pub item: Item<Outgoing>,
 }
 

@@ -11,14 +11,18 @@ use std::alloc::{AllocError, Global};
 /// A datagram to send, with the bytes that spell it in the session.
 #[derive(Debug, Drop)]
 pub struct Out {
+    /// The datagram.
     pub datagram: Datagram,
+    /// Its bytes, to be sent to all other members.
     pub bytes: Items<u8>,
 }
 
 /// A datagram that waits for the bucket. It is spelled, and copied for the entry of the tick that sends it, so that sending takes no memory.
 #[derive(Debug, Drop)]
 pub struct Outgoing {
+    /// What the caller gets once it goes.
     pub out: Out,
+    /// The copy for the entry.
     pub noted: Datagram,
 }
 

@@ -47,7 +47,7 @@ impl Went {
         })
     }
 
-    /// Adds a datagram that goes, for which there is room. Takes no memory.
+    /// Adds a datagram that goes. The caller has made room. Takes no memory.
     pub fn add(&mut self, outgoing: Outgoing)
         requires { 0 < self.old.room }
         ensures outs { self.new.outs ≡ self.old.outs ++ outgoing.out ∷ [] }
@@ -68,7 +68,7 @@ impl Went {
     }
 }
 
-/// Hands in requests and repairs, in order, for which the bucket has room. Takes no memory.
+/// Hands in requests and repairs, in order. The caller has made room in the bucket. Takes no memory.
 pub fn hand_in(bucket: &mut Bucket<Outgoing>, mut due_items: VecDeque<DueItem>)
     requires room { length due_items.items ≤ bucket.old.waiting.room }
     requires lengths { AllByRecursion (λ due_item. HasLength due_item.item) due_items.items }
@@ -94,8 +94,7 @@ pub fn let_go(bucket: &mut Bucket<Outgoing>, now: u64, mut went: Went) -> Went
     went
 }
 
-/// Lets time pass up to `now`, in microseconds, at most 2^48. It is for moments at which nothing may go: an item that may go would be
-/// dropped. Takes no memory.
+/// Lets time pass up to `now`, in microseconds, at most 2^48. Call it only if nothing may go by then: an item that may go would be dropped. Takes no memory.
 #[tactic(auto, using(crate::proofs::Handing::pop_passes))]
 pub fn let_time_pass(bucket: &mut Bucket<Outgoing>, now: u64)
     requires { now ≤ LATEST_MOMENT }

@@ -31,13 +31,18 @@ pub(crate) fn number_register(slot: u8, member: Member) -> usize
     usize::from(slot) * REGISTERS_A_SLOT + (member.index() + 1)
 }
 
-/// What a seat knows: whether it is a tap's and of which slot, whether it deals the slots from `next` on, and the number that it last saw
+/// What a seat knows: whether it is a tap's and that tap's slot, whether it deals the slots from `next` on, and the number that it last saw
 /// in each register. It is for contracts: no value of it is made.
 pub struct BoardView {
+    /// Whether it is a tap's seat.
     pub taps: bool,
+    /// The page slot of that tap.
     pub slot: u64,
+    /// Whether it deals seats.
     pub deals: bool,
+    /// The first page slot whose seat isn't dealt yet.
     pub next: u64,
+    /// The number that it last saw in each register.
     pub seen: LinkedList<u64>,
 }
 

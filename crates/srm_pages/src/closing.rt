@@ -5,7 +5,7 @@ ghost use Rattle.srm_names.specs.PageFeeds.{is_close};
 
 use srm_names::PageMsg;
 
-/// Whether a message is the close, behind which a page feed has none.
+/// Returns whether a message is the close, the last one of a page feed.
 pub fn is_close(message: &PageMsg) -> bool
     ensures { result ≡ is_close message.now }
 {

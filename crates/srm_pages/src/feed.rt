@@ -54,7 +54,7 @@ impl Feed {
         self.slot
     }
 
-    /// Whether [`put`](Feed::put) has returned a message.
+    /// Returns whether [`put`](Feed::put) has returned a message.
     pub fn is_disconnected(&self) -> bool
         ensures { result ≡ self.now.disconnected }
     {

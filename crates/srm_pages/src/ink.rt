@@ -9,11 +9,17 @@ use std::sync::atomic::AtomicU64;
 /// What a pass knows: the reader's what was received and how many producers were made, a producer's its number and what it sent. It is for
 /// contracts: no value of it is made.
 pub struct InkView {
+    /// Whether it is the reader's pass.
     pub reads: bool,
+    /// What the reader received.
     pub received: LinkedList<Stroke>,
+    /// How many producers were made.
     pub made: u64,
+    /// Whether it is a producer's pass.
     pub writes: bool,
+    /// The number of that producer.
     pub pen: u64,
+    /// What that producer sent.
     pub sent: LinkedList<Stroke>,
 }
 

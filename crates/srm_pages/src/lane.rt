@@ -9,9 +9,13 @@ use std::collections::LinkedList;
 /// What a pass knows: whether it puts and what it has put, whether it takes and what it has taken. It is for contracts: no value of it is
 /// made.
 pub struct LaneView {
+    /// Whether it puts.
     pub puts: bool,
+    /// Whether it takes.
     pub takes: bool,
+    /// What it has put.
     pub put: LinkedList<PageMsg>,
+    /// What it has taken.
     pub taken: LinkedList<PageMsg>,
 }
 

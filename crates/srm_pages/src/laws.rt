@@ -16,15 +16,15 @@ ghost use Rattle.srm_pages.specs.Ink.{IsWellState, strokes_of};
 use crate::board::{BoardRule, BoardView};
 use atomic_table::TableRule;
 
-/// The law of a lane: what its feed has put is what its tap has taken and then what the lane holds, and it is a page feed.
+/// States the law of a lane, and does nothing: what its feed has put is what its tap has taken and then what the lane holds, and it is a page feed.
 pub fn lane_keeps_its_rule()
     ensures { (items : List PageMsg) (views : List LaneView) → IsLaneState items views
         → (i j : ℕ) (f t : LaneView) → get_elem? views i ≡ some f → f.puts ≡ true → get_elem? views j ≡ some t → t.takes ≡ true
         → (f.put ≡ t.taken ++ items) × (is_page_feed f.put ≡ true) }
 {}
 
-/// The law of the board: a slot's registers are what its tap's seat has, and nobody has seen more of them. A slot posts no more drawops,
-/// of all members together, than it counts messages behind the first, which opened the page: the tap raises the count first.
+/// States the law of the board, and does nothing: a slot's registers are what its tap's seat has, and nobody has seen more of them. A slot posts no more drawops, of
+/// all members together, than it counts messages behind the first, which opened the page: the tap raises the count first.
 pub fn board_keeps_its_rule()
     ensures seen { (registers : List ℕ) (views : List BoardView) → IsBoardState registers views
         → (i j : ℕ) (t v : BoardView) → get_elem? views i ≡ some t → t.taps ≡ true → get_elem? views j ≡ some v
@@ -32,7 +32,7 @@ pub fn board_keeps_its_rule()
     ensures order { (board : State ℕ BoardView) → ⟦<BoardRule as TableRule<u8, BoardView, ()>>⟧.holds tt board → (slot : ℕ) → CountsPosted board.words slot }
 {}
 
-/// The law of the stroke queue: what a producer sent is its part of what was received, and then of what the queue holds.
+/// States the law of the stroke queue, and does nothing: what a producer sent is its part of what was received, and then of what the queue holds.
 pub fn well_keeps_its_rule()
     ensures { (items : List Stroke) (views : List InkView) → IsWellState items views
         → (i j : ℕ) (p r : InkView) → get_elem? views i ≡ some p → p.writes ≡ true → get_elem? views j ≡ some r → r.reads ≡ true

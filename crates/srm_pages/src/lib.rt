@@ -2,8 +2,11 @@
 //!
 //! A *lane* brings the page feed of one page slot to its worker, from a [`Feed`] to a [`Tap`]. The *board* shows feeds and [`Viewer`]s how
 //! far each worker is. The *stroke queue* ([`ends::Well`]) brings the strokes of the local producers ([`Pen`]) to the node. None has a lock
-//! that a caller could hold. Each end belongs to one thread and carries what this thread knows: contracts see these lists, and they take no
-//! bytes.
+//! that a caller could hold. Each end belongs to one thread. Contracts see in it the lists of what passed, as far as this thread knows; at run
+//! time there are no such lists.
+//!
+//! [`Pen::done`] returns an [`Inked`], which [`ends::Well::join_pen`] compares with what was received; [`settle`] compares the two ends of a lane. The laws are
+//! [`lane_keeps_its_rule`], [`board_keeps_its_rule`] and [`well_keeps_its_rule`].
 //!
 //! [`lanes`] and [`well`] make the ends. The types [`ends::Lanes`] and [`ends::Well`] stand in a module apart, since two names that differ
 //! only in case can't stand side by side.

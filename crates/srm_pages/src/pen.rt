@@ -54,7 +54,7 @@ impl Model for Inked {
 }
 
 impl Pen {
-    /// Returns its number among the producers, from 0.
+    /// Returns its number among the producers, 0 to 3.
     pub fn number(&self) -> u8
         ensures { result ≡ self.now.number }
     {
@@ -63,7 +63,8 @@ impl Pen {
 
     /// Sends a stroke, whose `pen` is this producer's number, behind those that it sent before. Takes no memory.
     ///
-    /// Returns the stroke if the queue is full; nothing has changed then.
+    /// Returns the stroke if 64 strokes wait; nothing has changed then. Strokes that are sent once the [`Well`](crate::ends::Well) is gone are taken until the queue
+    /// is full, and lost.
     pub fn stroke<R: Wait>(&mut self, rt: &R, stroke: Stroke) -> Result<(), Stroke>
         requires { stroke.pen ≡ self.old.number }
         ensures ok { OnOk result (self.new ≡ record self.old { sent = self.old.sent ++ stroke ∷ [] }) }
@@ -72,7 +73,8 @@ impl Pen {
         push(rt, &self.ink.queue, &mut self.pass, stroke)
     }
 
-    /// Ends the producer, and returns it with what it sent. The node may leave once all producers are done.
+    /// Ends the producer, and returns it with what it sent. The node leaves only once all four producers are done: one that is dropped without this call never is.
+    /// Call it at once for those that nobody uses.
     pub fn done(self) -> Inked
         ensures { result ≡ self }
     {

@@ -68,8 +68,8 @@ impl Tap {
         self.marker.slot()
     }
 
-    /// Takes the next message, for which it waits, and then stores at the board how many were taken, and for a drawop its number. What was
-    /// taken is always a page feed. Takes no memory.
+    /// Waits for the next message and takes it, and then stores at the board how many were taken, and for a drawop its number. What was taken is always a page feed.
+    /// Takes no memory.
     ///
     /// Returns [`Ended::Closed`] after `Close` was taken, or if the feed is gone and the lane is empty. From then on each take does, and
     /// nothing else changes.

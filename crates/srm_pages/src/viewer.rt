@@ -9,7 +9,7 @@ use crate::lookout::Lookout;
 use srm_names::Member;
 use std::marker::Model;
 
-/// Sees from another thread how far the page workers are. Contracts see what it last saw in each register, and at which board.
+/// Sees from another thread how far the page workers are. Contracts see its board, and what it last saw in each register.
 #[derive(Drop)]
 pub struct Viewer {
     pub(crate) lookout: Lookout,

@@ -1,7 +1,7 @@
-//! Lanes, workers, viewers, pens and the well at worked calls, as their callers see them: what no clause says, that calls go through with
+//! Lanes, workers, viewers, producers and the stroke queue at worked calls, as their callers see them: what no clause says, that calls go through with
 //! ample memory and that messages, strokes and numbers arrive between threads.
 //!
-//! The tests stand in a crate of their own: the lanes are proved once, and not a second time with them.
+//! The tests have their own crate: the lanes are proved once, and not a second time with them.
 #![tactic(auto)]
 
 #[cfg(test)]

@@ -1,4 +1,4 @@
-//! Wells that bring more strokes than any limit of theirs.
+//! Stroke queues that bring more strokes than any limit of theirs.
 
 ghost use Rattle.std.specs.Prelude.{◌≡◌};
 
@@ -11,13 +11,13 @@ use std::test::Fail;
 use std::thread;
 use std::thread::{JoinHandle, Threads};
 
-/// How often one thread fills the well and empties it: 102,400 strokes.
+/// How often one thread fills the stroke queue and empties it: 102,400 strokes.
 const ROUNDS: u16 = 1_600;
 
 /// How many strokes each of four threads sends: 100,000 in all.
 const EACH: u16 = 25_000;
 
-/// The pens send 64 strokes in turn. Whether all went in.
+/// The producers send 64 strokes in turn. Whether all went in.
 fn fill<R: Wait>(rt: &R, pens: &mut Vec<Pen>, round: u16) -> bool {
     for place in 0..64usize {
         let Some(pen) = pens.get_mut(place % 4) else {
@@ -44,7 +44,7 @@ fn empties<R: Wait>(rt: &R, well: &mut ends::Well, round: u16) -> bool {
     well.next(rt).is_none()
 }
 
-/// How often the well was filled and emptied.
+/// How often the stroke queue was filled and emptied.
 fn rounds<R: Wait>(rt: &R, alloc: Global) -> Result<u16, AllocError> {
     let (mut well, mut pens) = well(alloc)?;
     for round in 0..ROUNDS {
@@ -99,7 +99,7 @@ fn sender<R: Threads + Wait + Copy + Send + 'static>(
     Ok(thread::spawn(&rt, move || send_all(&rt, pen, &ended))?)
 }
 
-/// Receives until none is there. How many came of each pen so far, where each came in the order of its pages.
+/// Receives until none is there. How many came of each producer so far, where each came in the order of its pages.
 fn receive_some<R: Wait>(rt: &R, well: &mut ends::Well, before: [u16; 4]) -> Option<[u16; 4]> {
     let mut of_pen = before;
     for _ in rt.forever() {
@@ -115,7 +115,7 @@ fn receive_some<R: Wait>(rt: &R, well: &mut ends::Well, before: [u16; 4]) -> Opt
     unreachable!()
 }
 
-/// Receives as a node does: once all pens are done, what is there then is all.
+/// Receives as a node does: once all producers are done, what is there then is all.
 fn receive_all<R: Wait>(rt: &R, well: &mut ends::Well) -> Option<[u16; 4]> {
     let mut of_pen = [0u16; 4];
     for _ in rt.forever() {
@@ -129,7 +129,7 @@ fn receive_all<R: Wait>(rt: &R, well: &mut ends::Well) -> Option<[u16; 4]> {
     unreachable!()
 }
 
-/// What came of each of four pens in threads of their own.
+/// What came of each of four producers, each in its own thread.
 fn four_pens<R: Threads + Wait + Copy + Send + 'static>(
     rt: R,
     alloc: Global,

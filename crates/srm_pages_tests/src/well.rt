@@ -1,4 +1,4 @@
-//! Pens and the well.
+//! Producers and the stroke queue.
 
 ghost use Rattle.std.specs.Prelude.{◌≡◌, ◌<◌, vec_len, IfSome};
 ghost use Rattle.srm_pages.specs.Ends.{AreNewPens};
@@ -12,10 +12,10 @@ use std::test::Fail;
 use std::thread;
 use std::thread::{JoinHandle, Threads};
 
-/// The strokes that each pen sends.
+/// The strokes that each producer sends.
 const STROKES: u16 = 100;
 
-/// A stroke of this pen on the page with this number. One on a page with an even number has a body, one on another page has none.
+/// A stroke of this producer on the page with this number. One on a page with an even number has a body, one on another page has none.
 pub(crate) fn stroke_of(pen: u8, number: u16) -> Option<Stroke>
     ensures { IfSome result (λ s. s.pen ≡ pen) }
 {
@@ -61,7 +61,7 @@ fn sender<R: Threads + Wait + Copy + Send + 'static>(
     Ok(thread::spawn(&rt, move || send_all(&rt, pen))?)
 }
 
-/// Receives so many strokes. How many came of each pen, where each came in the order of its pages.
+/// Receives so many strokes. How many came of each producer, where each came in the order of its pages.
 fn receive_all<R: Wait>(rt: &R, well: &mut ends::Well, count: u32) -> Option<[u16; 4]> {
     let mut of_pen = [0u16; 4];
     for _ in 0..count {
@@ -85,7 +85,7 @@ fn next_one<R: Wait>(rt: &R, well: &mut ends::Well) -> Stroke {
     unreachable!()
 }
 
-/// Four pens in threads of their own send, and this one receives. What came of each, and whether the well said that all are done
+/// Four producers, each in its own thread, send, and this one receives. What came of each, and whether the stroke queue said that all are done
 /// before they began and after they joined.
 fn four_pens<R: Threads + Wait + Copy + Send + 'static>(
     rt: R,
@@ -133,7 +133,7 @@ fn there_are_four_pens_in_order(rt: HostRuntime) -> Result<(), Fail> {
     Ok(())
 }
 
-/// Whether a stroke of this number goes in by each pen and comes out as it was sent, and how many pens there are.
+/// Whether a stroke of this number goes in by each producer and comes out as it was sent, and how many producers there are.
 fn came_of_each<R: Wait>(rt: &R, alloc: Global, number: u16) -> Result<Option<u32>, AllocError> {
     let (mut well, pens) = well(alloc)?;
     let mut count = 0u32;
@@ -161,7 +161,7 @@ fn a_stroke_of_each_pen_comes_with_and_without_a_body(rt: HostRuntime) -> Result
     Ok(())
 }
 
-/// The pen of place 0.
+/// The producer of place 0.
 fn first_pen(pens: &mut Vec<Pen>, well: &ends::Well) -> Pen
     requires { (0 < vec_len pens.old) × AreNewPens well.now.well pens.old.items }
     ensures { (result.number ≡ 0) × (result.well ≡ well.now.well) }
@@ -169,7 +169,7 @@ fn first_pen(pens: &mut Vec<Pen>, well: &ends::Well) -> Pen
     pens.remove(0)
 }
 
-/// Whether a stroke of the first pen goes in.
+/// Whether a stroke of the first producer goes in.
 fn goes_in<R: Wait>(rt: &R, pen: &mut Pen) -> Option<bool>
     requires { pen.old.number ≡ 0 }
     ensures { (pen.new.number ≡ 0) × (pen.new.well ≡ pen.old.well) }
@@ -178,7 +178,7 @@ fn goes_in<R: Wait>(rt: &R, pen: &mut Pen) -> Option<bool>
     Some(pen.stroke(rt, stroke).is_ok())
 }
 
-/// How many strokes of a pen go into a well that nobody reads, up to 70, and whether one more does after one was read.
+/// How many strokes of a producer go into a stroke queue that nobody reads, up to 70, and whether one more does after one was read.
 fn filled<R: Wait>(rt: &R, alloc: Global) -> Result<Option<(u32, bool)>, AllocError> {
     let (mut well, mut pens) = well(alloc)?;
     let mut pen = first_pen(&mut pens, &well);
@@ -200,7 +200,7 @@ fn a_full_well_gives_a_stroke_back(rt: HostRuntime) -> Result<(), Fail> {
     Ok(())
 }
 
-/// A pen sends three strokes and is done, two of them are received, and the pen is put beside these. What went in, what came before
+/// A producer sends three strokes and is done, two of them are received, and the producer is put beside these. What went in, what came before
 /// that and what came after.
 fn settled_midway<R: Wait>(
     rt: &R,
@@ -229,7 +229,7 @@ fn the_well_goes_on_after_settling(rt: HostRuntime) -> Result<(), Fail> {
     Ok(())
 }
 
-/// Whether all pens are done, as the well says at first and after each of them.
+/// Whether all producers are done, as the stroke queue says at first and after each of them.
 fn said_of_each(alloc: Global) -> Result<Vec<bool>, AllocError> {
     let (mut well, pens) = well(alloc)?;
     let mut said = Vec::new(alloc);

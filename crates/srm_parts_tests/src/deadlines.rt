@@ -85,7 +85,7 @@ fn compare<D: Deadlines>(
     Ok(())
 }
 
-/// Sets or clears the moment of a name in both bodies, as the words say, and compares them.
+/// Sets or clears the moment of a name in both implementations, as the random numbers say, and compares them.
 fn set_or_clear<D: Deadlines>(
     alloc: Global,
     words: &mut Pcg,
@@ -105,7 +105,7 @@ fn set_or_clear<D: Deadlines>(
     compare(alloc, scanned, other, words.word() % 100, rt)
 }
 
-/// A body answers 1,000 calls, which words from this number on choose, as a list that is looked through.
+/// An implementation answers 1,000 calls, which the generator with this seed chooses, as a list that is looked through does.
 fn answers_1_000_calls<D: Deadlines>(
     alloc: Global,
     start: u64,
@@ -160,7 +160,7 @@ fn tree_has_many_names_as_scanned(rt: HostRuntime) -> Result<(), Fail> {
     Ok(())
 }
 
-/// Up to 32 names that rise, with moments below 100: a name where its word is even.
+/// Up to 32 names that rise, with moments below 100: a name where its random number is even.
 fn some_moments(words: &mut Pcg, alloc: Global, rt: &impl Abort) -> Result<Vec<Timed>, AllocError> {
     let mut moments = Vec::new(alloc);
     for source in 0..4 {
@@ -205,7 +205,7 @@ fn set_list<D: Deadlines>(
     compare(alloc, scanned, other, words.word() % 100, rt)
 }
 
-/// A body has 100 lists of moments set, which words from this number on choose, as a list that is looked through.
+/// An implementation has 100 lists of moments set, which the generator with this seed chooses, as a list that is looked through does.
 fn sets_100_lists<D: Deadlines>(
     alloc: Global,
     start: u64,

@@ -74,7 +74,7 @@ impl ListStore {
         self.missing_after(alloc, name, known)
     }
 
-    /// The number up to which all of the name's stream are held.
+    /// All numbers of the name's stream are held up to this one.
     pub fn released(&self, name: Name) -> u32 {
         for number in 1..70 {
             if let Some(other) = Name::new(name.source(), name.stream().page, number)

@@ -16,7 +16,7 @@ fn drawop(alloc: Global, name: Name, body: &[u8]) -> Result<Drawop, Fail> {
     })
 }
 
-/// A fixed sequence of words.
+/// A fixed sequence of random numbers.
 fn next(state: u64) -> u64 {
     state
         .wrapping_mul(6_364_136_223_846_793_005)

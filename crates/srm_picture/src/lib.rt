@@ -5,7 +5,7 @@
 //! write_svg(alloc, &mut out, &Subject { members: 2, entries, lines }, &picture)?;
 //! ```
 //!
-//! [`Picture`] says what to draw: arrows, brackets for timers, and local actions, each with the entries that it is of. [`write_svg`]
+//! [`Picture`] says what to draw: arrows, brackets for timers, and local actions, each with the entries that it shows. [`write_svg`]
 //! draws it. The caller says by [`Arrival`] which datagram came in an entry, since an entry has the datagram but not its number.
 //!
 //! A picture has [`Arrow`]s, each from a [`Launch`] to an [`ArrowEnd`]; [`Bracket`]s, each perhaps with a [`BracketEnd`]; and [`LocalAction`]s. Each is at a

@@ -1,6 +1,6 @@
 //! Pictures of worked scripts: how many shapes of each kind they have, what their titles say, and which scripts have none.
 //!
-//! The tests stand in a crate of their own: pictures are proved once, and not a second time with them.
+//! The tests have their own crate: pictures are proved once, and not a second time with them.
 #![tactic(auto)]
 
 #[cfg(test)]

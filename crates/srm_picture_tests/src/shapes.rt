@@ -1,4 +1,4 @@
-//! How many shapes of each kind the pictures of worked scripts have. The numbers were counted by hand in what `srm world` prints of each.
+//! How many shapes of each kind the pictures of worked scripts have. The numbers were counted in what `srm world` prints of each, not in its picture.
 
 use crate::counts::{Counts, counts_of};
 use crate::scripts::{BACKED_OFF, IGNORED};

@@ -14,7 +14,7 @@ use Rattle.srm_record.specs.Records.{lines_with_takes, whole_lines}
 abbrev pub start_of : Beginning → Start
 start_of b = record { config = b.config; made = b.made }
 
--- It is still of the member that began so, and its waits are by the next words.
+-- It is still of the member that began so, and its waits are by the next random numbers.
 pub record GoesOn {W : Type 0} (next_word : W → ℕ × W) (old new : RecorderView W) : Type 0 where
   pub start : new.journal.start ≡ old.journal.start
   pub words : RecordsByWords next_word old new

@@ -97,7 +97,7 @@ NotesIn None None e = Unit {0}
 NotesIn (Some old) (Some new) e = Notes old new e
 NotesIn _ _ e = ⊥
 
--- What contracts see of a past whose calls are written to a file, if there is one: the past, its entries, and the file.
+-- What contracts see of a history whose calls are written to a file, if there is one: the history, its entries, and the file.
 pub record WrittenView (P : Type 0) : Type 0 where
   pub past : P
   pub entries : List Entry

@@ -1,4 +1,4 @@
-//! A member's record: its calls, written to a file as they are made, and made anew.
+//! A member's record: its calls, written to a file as they are made, and made again from that file.
 //!
 //! ```
 //! // The past of a recorder or a node, whose calls go to a file.
@@ -9,12 +9,12 @@
 //! ```
 //!
 //! A record says what a member was handed, call by call, and what its page workers took. It says nothing of what the member did. [`Written`] writes it: a call that sends is in the file before any of its
-//! datagrams leaves. [`retell`] makes the calls anew by a [`Recorder`](srm_world::Recorder), and returns the journal only if the record is exactly the record of that journal.
+//! datagrams leaves. [`retell`] makes the calls again with a [`Recorder`](srm_world::Recorder), and returns the journal only if the record is exactly the record of that journal.
 //! [`srm_frames`] has the bytes.
 //!
 //! Calls that did nothing are left out: what was refused, ignored or noise, ticks at which nothing was due, and gives that found nothing.
 //!
-//! Where a file fails, [`Written`] goes on without it, and says so at its end.
+//! If the file fails, [`Written`] goes on without it, and says so at its end.
 #![tactic(auto)]
 
 mod record_file;

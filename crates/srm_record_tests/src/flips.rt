@@ -1,4 +1,4 @@
-//! A record of which one bit is another.
+//! A record with one bit flipped.
 
 use crate::rig::{Outcome, outcome_of, worked_record};
 use srm_frames::{RecordEnd, crc_32};

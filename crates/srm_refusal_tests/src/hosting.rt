@@ -48,7 +48,7 @@ fn try_host<
 >(rt: &R, alloc: Global, sinks: Vec<S>) -> Option<Hosted>
     requires { vec_len sinks ≡ PAGES }
 {
-    // A wire over which nothing comes, and which takes all. It needs no memory.
+    // A wire that takes all and brings nothing. It needs no memory.
     let wire = Replay::new(Vec::new(alloc));
     match make(rt, alloc, 0, 1, wire, b"abc") {
         Some(rig) => host_rig(rt, alloc, rig, sinks),
@@ -56,7 +56,7 @@ fn try_host<
     }
 }
 
-/// Whether a worker took so many messages to the close, or ended for want of memory.
+/// Whether a worker took so many messages to the close, or ended because it was out of memory.
 fn is_served(worked: &Worked, count: usize) -> bool {
     match worked.end {
         WorkEnd::Closed => worked.list.len() == count,
@@ -74,7 +74,7 @@ fn check_served(rt: &impl Abort, worked: &[Worked]) {
     }
 }
 
-/// A host ends whole, or for want of memory and with no feed.
+/// A host ends whole, or with no feed because it was out of memory.
 fn check_hosted(rt: &impl Abort, hosted: &Hosted) {
     match hosted.end {
         Ok(()) => check_served(rt, hosted.worked.as_slice()),
@@ -120,7 +120,7 @@ fn new_count(rt: &impl Abort, alloc: Global) -> Arc<AtomicU64, Global> {
     }
 }
 
-/// A sink for each slot, all of which count here.
+/// A sink for each slot. All of them count here.
 fn counting_sinks(rt: &impl Abort, alloc: Global, seen: &Arc<AtomicU64, Global>) -> Vec<Counting> {
     let mut sinks = room(rt, alloc, usize::from(PAGES));
     for _ in 0..PAGES {

@@ -1,4 +1,4 @@
-//! Two recorders that meet. A call that is refused for memory is made again.
+//! Two recorders that meet. A call that runs out of memory is made again.
 
 use crate::again::body;
 use srm_agent::Ticked;

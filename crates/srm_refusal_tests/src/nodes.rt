@@ -1,4 +1,4 @@
-//! Two nodes over a network in memory, turned by hand, of which turns are made again that are refused.
+//! Two nodes over a network in memory. The test turns them, and makes a refused turn again.
 
 use crate::lists::{Did, end};
 use crate::rig::{Rig, make, new_wires};
@@ -11,7 +11,7 @@ use std::sync::Wait;
 /// The strokes of member 0.
 const STROKES: &[u8] = b"abc";
 
-/// The nodes of two members, of which the first has these strokes.
+/// The nodes of two members. The first has these strokes.
 #[derive(Drop)]
 struct Pair<R: Wait + Drop> {
     first: Rig<MemWire<R>>,
@@ -61,7 +61,7 @@ fn turn<R: Wait + Abort, X: Wire + Drop>(rt: &R, rig: &mut Rig<X>) {
     }
 }
 
-/// Whether a turn was refused: for memory, or since the wire failed, which lacks memory for a datagram.
+/// Whether a turn was refused: memory ran out in the node, or the wire failed because it had none for a datagram.
 fn is_refused<R: Wait + Abort, X: Wire + Drop>(rt: &R, rig: &mut Rig<X>) -> bool {
     match rig.node.turn(rt) {
         Ok(()) => false,
@@ -72,7 +72,7 @@ fn is_refused<R: Wait + Abort, X: Wire + Drop>(rt: &R, rig: &mut Rig<X>) -> bool
     }
 }
 
-/// What the first node did undisturbed: no want of memory takes anything of it away. Three strokes, and eight closes.
+/// What the first node did undisturbed: running out of memory takes nothing of it away. Three strokes, and eight closes.
 const ALL_OF_FIRST: Did = Did {
     heard: 0,
     drew: 3,
@@ -165,7 +165,7 @@ fn check_came_unless(rt: &impl Abort, refused: bool, did: Did) {
     }
 }
 
-/// Want of memory comes only where a growth was refused: without one the second takes all.
+/// Memory runs out only where a growth was refused: without one the second takes all.
 #[test]
 fn a_turn_that_is_not_refused_loses_nothing(rt: HostRuntime) {
     let Pair {

@@ -102,7 +102,7 @@ fn lacks_memory(answered: &Result<Trace, Mismatch>) -> bool {
     matches!(answered, Err(Mismatch::Memory))
 }
 
-/// The same, with journals and lists that are made again where it lacks memory.
+/// The same, with journals and lists that are made again where memory ran out.
 fn answer(rt: &impl Abort, alloc: Global, kind: Kind, times: u8) -> Result<Trace, Mismatch> {
     let answered = once(rt, alloc, kind, times);
     if lacks_memory(&answered) {

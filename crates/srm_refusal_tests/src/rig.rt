@@ -14,10 +14,10 @@ use std::alloc::Global;
 use std::process::Abort;
 use std::sync::Wait;
 
-/// A node whose clock stands, with its taps and pens.
+/// A node whose clock stands, with its taps and producers.
 pub(crate) type Rig<X> = Station<Listed, X, StepClock>;
 
-/// The first pen sends these bytes as strokes, and then all pens are done.
+/// The first producer sends these bytes as strokes, and then all producers are done.
 fn use_pens<R: Wait + Abort>(rt: &R, alloc: Global, pens: &mut Vec<Pen>, strokes: &[u8]) {
     for byte in strokes {
         assert!(rt; ink(rt, pens, 0, 0, body(rt, alloc, *byte)));
@@ -25,7 +25,7 @@ fn use_pens<R: Wait + Abort>(rt: &R, alloc: Global, pens: &mut Vec<Pen>, strokes
     end_all(pens);
 }
 
-/// A node that did nothing yet. None where memory is refused to it, by which the wire is gone.
+/// A node that did nothing yet. None if out of memory; the wire is then gone.
 fn new_rig<X: Wire + Drop>(alloc: Global, config: Config, wire: X) -> Option<Rig<X>>
     ensures { IfSome result (λ rig. vec_len rig.taps ≡ PAGES) }
 {
@@ -36,7 +36,7 @@ fn new_rig<X: Wire + Drop>(alloc: Global, config: Config, wire: X) -> Option<Rig
     }
 }
 
-/// A node over this wire of one of so many members, which did nothing yet. Its first pen sent a stroke of each of these bytes, all pens are done,
+/// A node over this wire of one of so many members, which did nothing yet. Its first producer sent a stroke of each of these bytes, all producers are done,
 /// and it leaves as soon as it may. None where memory is refused to it.
 pub(crate) fn make<R: Wait + Abort, X: Wire + Drop>(
     rt: &R,

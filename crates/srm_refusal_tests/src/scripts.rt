@@ -26,7 +26,7 @@ pub(crate) const REPAIRED_BY_ANOTHER: (&str, &str) = (
         gave 1 0 draw 0 3 c\ngave 1 0 left 0\ngave 1 0 none\n",
 );
 
-/// The same with words by which waits are chosen: 200,000 and 5, 400,000 and 7, 100,000 and 3.
+/// The same with the random numbers that choose the waits: 200,000 and 5, 400,000 and 7, 100,000 and 3.
 pub(crate) const BY_WORDS: (&str, &str) = (
     "members 3\nwords 1 5 7\nwords 2 3\ntimers\ndraw 0 1 0.0 a\ndraw 0 2 0.0 b\ndraw 0 3 0.0 c\ntick 0 4\n\
         leave 0 20\ntick 0 21\ndeliver 2 30 0\ndeliver 2 31 1\ndeliver 2 32 2\ndeliver 1 30 0\ndeliver 1 31 2\n\

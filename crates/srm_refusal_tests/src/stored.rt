@@ -1,4 +1,4 @@
-//! Worlds of scripts to which each event happens that memory doesn't refuse, and once more where it does.
+//! Worlds of scripts. An event that runs out of memory happens once more.
 
 ghost use Rattle.std.specs.Prelude.{All, IfOk};
 ghost use Rattle.srm_world.specs.Events.{IsTimely};
@@ -50,7 +50,7 @@ fn begin(rt: &impl Abort, alloc: Global, script: &str) -> Begun
     }
 }
 
-/// An event happens, and once more where it is refused for memory. What it did is printed.
+/// An event happens, and once more if memory ran out. What it did is printed.
 fn step(
     rt: &impl Abort,
     world: &mut World<Listed>,
@@ -132,7 +132,7 @@ fn another_member_repairs_what_one_that_left_drew(rt: HostRuntime) {
     check(&rt, rt.alloc(), script, wanted);
 }
 
-/// A refused event uses no word, or the waits would be others.
+/// A refused event consumes no random number, or the waits would be others.
 #[test]
 fn words_are_used_once(rt: HostRuntime) {
     let (script, wanted) = BY_WORDS;

@@ -15,7 +15,7 @@ use std::sync::Wait;
 use std::thread::Threads;
 use std::time::Clock;
 
-/// A member's run whose workers lack memory.
+/// A member's run whose workers run out of memory.
 type ScarceRun = Hosted<Published<Forgotten<Entry>>, Scarce>;
 
 /// A member that is the only one of its session, at a port that nobody has, and leaves at once.

@@ -1,6 +1,6 @@
 //! The scripts of `examples/`, as texts.
 
-/// Three strokes, of which the second is lost.
+/// Three strokes. The second is lost.
 pub const LOSS: &str =
     "members 2\ndraw 0 10 0.0 a line\ndraw 0 20 0.0 a circle\ndraw 0 30 0.0 an arrow\ntick 0 40\n\
     deliver 1 140 0\ndeliver 1 160 2\ngive 1 0\ngive 1 0\ngive 1 0\ntake 1 0\ntake 1 0\n\

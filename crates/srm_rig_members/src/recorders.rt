@@ -6,7 +6,7 @@ use srm_world::{Journal, Recorder};
 use std::alloc::{AllocError, Global};
 use std::collections::VecDeque;
 
-/// A recorder that was made at 0 and did nothing yet. All its words are 0.
+/// A recorder that was made at 0 and did nothing yet. All its random numbers are 0.
 pub fn recorder(alloc: Global, config: Config) -> Result<Recorder<Listed>, AllocError> {
     Recorder::new(alloc, config, Listed::new(Vec::new(alloc)), 0)
 }

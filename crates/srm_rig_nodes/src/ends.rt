@@ -1,4 +1,4 @@
-//! What a node shares with its workers and its pens.
+//! What a node shares with its workers and its producers.
 
 ghost use Rattle.std.specs.Prelude.{◌≡◌, [], vec_len, IfOk};
 ghost use Rattle.srm_names.specs.declared.limits.TheConstants.{PAGES};
@@ -8,7 +8,7 @@ use srm_pages::ends::Well;
 use srm_pages::{Feed, Pen, Tap, lanes, well};
 use std::alloc::{AllocError, Global};
 
-/// The ends of the lanes of a node, and of the well.
+/// The ends of the lanes of a node, and of the stroke queue.
 #[derive(Drop)]
 pub(crate) struct Ends {
     pub feeds: Vec<Feed>,

@@ -5,7 +5,7 @@ ghost use Rattle.std.specs.Prelude.{None};
 use srm_names::Member;
 use srm_node::{Wire, WireFault};
 
-/// A wire of which all calls fail from one on, for ever. It tells nothing.
+/// A wire whose calls all fail from one on, for ever. It tells nothing.
 #[derive(Drop)]
 pub struct FailingWire<X: Wire + Drop> {
     wire: X,

@@ -1,4 +1,4 @@
-//! What tests and benchmarks of nodes start from: a node with its taps and pens, clocks, wires and fates, and sinks.
+//! What tests and benchmarks of nodes start from: a node with its taps and producers, clocks, wires and fates, and sinks.
 //!
 //! A library may not end its process, so what is refused here is answered: a test says `expect`, or makes it again.
 #![tactic(auto)]

@@ -1,11 +1,11 @@
-//! What pens send.
+//! What producers send.
 
 use bytes::Bytes;
 use srm_pages::{Pen, Stroke};
 use std::alloc::{AllocError, Global};
 use std::sync::Wait;
 
-/// The pen at this place sends this as a stroke on a page of member 0. Whether the well took it: it takes nothing of a pen that isn't there.
+/// The producer at this place sends this as a stroke on a page of member 0. Whether the stroke queue took it: it takes nothing of a producer that isn't there.
 pub fn ink<R: Wait>(rt: &R, pens: &mut Vec<Pen>, place: usize, number: u16, body: Bytes) -> bool {
     let (Some(pen), Some(page)) = (pens.get_mut(place), srm_rig::page(0, number)) else {
         return false;
@@ -18,7 +18,7 @@ pub fn ink<R: Wait>(rt: &R, pens: &mut Vec<Pen>, place: usize, number: u16, body
     pen.stroke(rt, stroke).is_ok()
 }
 
-/// The first pen sends each of these bytes as a stroke on the first page. Whether the well took them all.
+/// The first producer sends each of these bytes as a stroke on the first page. Whether the stroke queue took them all.
 pub fn ink_text<R: Wait>(
     rt: &R,
     alloc: Global,
@@ -34,14 +34,14 @@ pub fn ink_text<R: Wait>(
     Ok(true)
 }
 
-/// The last pen that is left is done.
+/// The last producer that is left is done.
 fn end_last(pens: &mut Vec<Pen>) {
     if let Some(pen) = pens.pop() {
         let _inked = pen.done();
     }
 }
 
-/// All pens that are left are done.
+/// All producers that are left are done.
 pub fn end_all(pens: &mut Vec<Pen>) {
     for _ in 0..pens.len() {
         end_last(pens);

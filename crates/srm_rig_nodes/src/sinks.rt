@@ -19,7 +19,7 @@ impl PageSink for Plain {
     }
 }
 
-/// A sink for each slot, of which the first may stop.
+/// A sink for each slot. The first may stop.
 pub fn plain_sinks(alloc: Global, stops: bool) -> Result<Vec<Plain>, AllocError>
     ensures { IfOk result (λ sinks. vec_len sinks ≡ PAGES) }
 {

@@ -11,7 +11,7 @@ use srm_timers::Words;
 use srm_world::{Forgotten, Past};
 use std::alloc::{AllocError, Global};
 
-/// A node, the taps for its page workers, and its pens. The node keeps its entries unless another past is named.
+/// A node, the taps for its page workers, and its producers. The node keeps its entries unless another history is named.
 #[derive(Drop)]
 pub struct Station<
     W: Words + Drop,

@@ -45,7 +45,8 @@ impl PageRota {
         self.pages.first().copied()
     }
 
-    /// Adds a page that has strokes, with its turn behind all others. A page that is there stays where it is, and a ninth page isn't added.
+    /// Adds a page that has strokes, with its turn behind all others. A page that is there stays where it is, and a ninth page isn't added. No call takes a page out
+    /// again.
     #[tactic(auto, using(crate::proofs::Turns::adds, crate::proofs::Turns::keeps))]
     pub fn add(&mut self, page: Page)
         ensures { self.new ≡ added page self.old }

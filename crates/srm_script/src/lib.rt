@@ -8,7 +8,7 @@
 //! `docs/SCRIPTS.md` has the language.
 //!
 //! [`read_script`] returns a [`Script`], [`read_script_in`] one of a [`Dialect`]. [`EntryPrinter`], [`PrintedTake`] and [`PrintedGone`] print lines. The statuses of
-//! the program are [`FAILED`], [`WRONG_USAGE`], [`WIRE_FAILED`] and [`RAN_OUT`].
+//! the program are [`FAILED`], [`WRONG_USAGE`], [`WIRE_FAILED`] and [`RAN_OUT`]; `srm_live` adds one.
 //!
 //! **Errors.** A bad line, before any event is played; a script of more than 1,000,000 bytes; input or output that fails; out of memory.
 //! [`ScriptFault`] has the text and the status of each.

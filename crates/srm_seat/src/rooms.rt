@@ -12,7 +12,7 @@ pub fn lay_over(bytes: &[u8], room: &mut [u8])
     }
 }
 
-/// Copies bytes to the front of a room in which they fit.
+/// Copies bytes to the front of a room that they fit in.
 fn copy_to_front(bytes: &[u8], room: &mut [u8])
     requires { length bytes.now ≤ length room.old }
     ensures { room.new ≡ bytes.now ++ drop (length bytes.now) room.old }

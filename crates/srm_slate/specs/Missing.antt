@@ -6,7 +6,7 @@ use Rattle.srm_names.specs.Names.{among, same_name}
 use Rattle.srm_slate.specs.declared.missing.TheConstants.{MISSING}
 use Rattle.srm_slate.specs.MissingView.{MissingView}
 
--- a name that isn't kept, and for which there is room
+-- a name that isn't kept, with room for it
 abbrev pub is_new : FullName → MissingView → Bool
 is_new name m = not (among m.names name) && nat_lt (length m.names) MISSING
 

@@ -14,7 +14,7 @@ use Rattle.srm_slate.specs.Happenings.{newest, one_more}
 use Rattle.srm_slate.specs.Missing.{is_new, with_missing, without_missing}
 use Rattle.srm_slate.specs.RecordView.{RecordView}
 
--- a member of which there is nothing to show
+-- a member with nothing to show
 abbrev pub blank : RecordView
 blank = record {
   taken = [];

@@ -114,7 +114,7 @@ where
     Some(threads)
 }
 
-// A number by which a page knows that this is another run than the one that it saw.
+// A number that tells a page whether this is another run than the one that it saw.
 fn new_run<R: RandomSource>(rt: &R) -> Option<u64> {
     let mut bytes = [0_u8; 8];
     rt.fill_bytes(&mut bytes).ok()?;

@@ -18,8 +18,8 @@
 //! door.close(&rt);
 //! ```
 //!
-//! **Who may ask.** [`Guard::judge`] refuses a request that names another host or lacks the token of the page's address, and any but that for the page itself that
-//! doesn't come from this page.
+//! **Who may ask.** [`Guard::judge`] refuses a request that names another host or lacks the token of the page's address. It also refuses a request that
+//! doesn't come from the page, unless it asks for the page itself.
 //!
 //! **Errors.** If out of memory, a [`Record`] keeps no later message and says that it is lossy; a request gets no answer, and the page asks again. [`open_door`]
 //! returns `None` if it can't start its threads.

@@ -32,7 +32,7 @@ const TRIES: u8 = 250;
 pub struct Shown<K: Easel + Drop> {
     /// What the server shows, and to whom.
     pub face: Face,
-    /// By which a page knows that this is another run than the one that it saw.
+    /// Tells a page whether this is another run than the one that it saw.
     pub run: u64,
     /// What there is to show.
     pub slate: Arc<Slate, Global>,

@@ -26,7 +26,7 @@ pub struct Open {
 }
 
 impl Open {
-    /// A server named `board`, at paths that begin with `/k/`, of a slate on which the first page and a stroke were taken.
+    /// A server named `board`, at paths that begin with `/k/`, of a slate that took the first page and a stroke.
     pub fn new<R>(rt: &R) -> Result<Open, Fail>
     where
         R: Net<Listener = TcpListener, Stream = TcpStream>
@@ -75,7 +75,7 @@ impl Open {
         answer_from(rt, stream)
     }
 
-    /// A connection on which a request was written that closes it.
+    /// A connection with a request that closes it.
     pub fn begin<R: Net<Stream = TcpStream> + AllocGlobal>(
         &self,
         rt: &R,

@@ -10,8 +10,8 @@ same_fault e f h = let same : e ≡ f = cc in ap Err same
 pub no_page_limit : {X : Type 0} (r : Result X StoreFault) → r ≡ Err Memory → r ≡ Err PageLimit → ⊥
 no_page_limit r h e = cc
 
--- A call that asks first whether pages find slots is refused for want of them as that asking says: where its fault is handed on, and where
--- slots were found and nothing behind it is refused so.
+-- A call that asks first whether pages find page slots fails as that asking says: where its fault is passed on, and where slots were found and nothing behind it is
+-- refused so.
 
 pub limit_handed_on : {Q : Type 0} (e : StoreFault) (r : Result (Unit {0}) StoreFault) → (◌≡◌ {A = Result (Unit {0}) StoreFault} (Err e) (Err PageLimit) ↔ Q) → r ≡ Err e → ((r ≡ Err PageLimit) ↔ Q)
 limit_handed_on {Q} e r h is = subst (λ (x : Result (Unit {0}) StoreFault). (x ≡ Err PageLimit) ↔ Q) (sym is) h

@@ -114,7 +114,7 @@ ready_more names i name old new at lt before stays here = each_more names i name
 pub stays_on : (a b c : StoreContent) → StaysReady a b → StaysReady b c → StaysReady a c
 stays_on a b c p q = record { each = λ n ready. q.each n (p.each n ready) }
 
--- what is refused neither for slots nor for memory is done
+-- what fails neither for page slots nor out of memory is done
 pub not_refused : {X : Type 0} (r : Result X StoreFault) → (r ≡ Err PageLimit → ⊥) → (r ≡ Err Memory → ⊥) → IsOk r
 not_refused (Ok x) slot memory = refl
 not_refused (Err PageLimit) slot memory = absurd (slot refl)

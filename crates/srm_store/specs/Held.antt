@@ -37,7 +37,7 @@ number_in s n = if same_stream s n.stream then n.number ∷ [] else []
 abbrev pub greatest_in : List FullName → Stream → ℕ
 greatest_in names s = greatest (flat_map (number_in s) names)
 
--- the greatest number of the stream of which there was evidence
+-- the greatest number of the stream that there was evidence of
 abbrev pub known : List FullName → Stream → ℕ
 known evidence s = greatest_in evidence s
 

@@ -53,7 +53,7 @@ pub record HasPlaceFor (n : FullName) (t : TableContent) : Type 0 where
 pub record StillHasPlaces (old new : TableContent) : Type 0 where
   pub each : (n : FullName) → HasPlaceFor n old → HasPlaceFor n new
 
--- a table in which nothing is held or known, with the first page alone
+-- a table that holds and knows nothing, with the first page alone
 pub record IsNewTable (t : TableContent) : Type 0 where
   pub pages : t.pages ≡ first_page ∷ []
   pub streams : (s : Stream) → s.source < MEMBERS → SameStreamPlaces blank_stream (places_of_stream t s)

@@ -24,6 +24,7 @@ impl Model for Block {
 }
 
 impl Block {
+    /// Makes a block without places. Takes no memory.
     pub fn new(alloc: Global) -> Self
         ensures { result ≡ [] }
     {

@@ -9,7 +9,7 @@ use thiserror::Error;
 /// Why a call of the store fails. What the store holds and knows is then as before.
 #[derive(Clone, Copy, Debug, PartialEq, Eq, Error)]
 pub enum StoreFault {
-    /// The call names a page without a slot, and no slot is left.
+    /// The call names a page without a page slot, and none is left.
     #[error("the table has no slot for another page")]
     PageLimit = 1,
     /// Out of memory.

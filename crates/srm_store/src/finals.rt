@@ -29,6 +29,7 @@ impl Model for Finals {
 }
 
 impl Finals {
+    /// Makes the finals of no member. Fails only if out of memory.
     pub fn new(alloc: Global) -> Result<Finals, AllocError>
         ensures { IfOk result (λ finals. (m : ℕ) → rows_kept finals m ≡ None) }
     {
@@ -69,7 +70,7 @@ impl Finals {
         Ok(())
     }
 
-    /// How far a stream goes.
+    /// Returns how far a stream goes.
     pub fn final_of(&self, stream: Stream) -> Option<u32>
         ensures value { result ≡ final_in (rows_kept self.now stream.source) stream }
         ensures last { IfSome result (λ number. number ≤ DRAWOPS) }

@@ -16,7 +16,7 @@ pub enum Insert {
     Conflict,
 }
 
-/// Whether two drawops of a name have the same stamp and body.
+/// Returns whether two drawops of a name have the same stamp and body.
 pub fn same_drawop(drawop: &Drawop, other: &Drawop) -> bool
     ensures { result ≡ same_drawop drawop.now other.now }
 {

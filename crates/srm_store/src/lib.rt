@@ -1,6 +1,6 @@
 //! What a member holds of each stream, what it knows to exist, what is missing, and how far each stream may be released.
 //!
-//! Contracts speak of the calls so far: a store *fits* lists of drawops inserted, of names with evidence and of members settled, if
+//! Contracts speak of the calls so far: a store *fits* lists of drawops inserted, of names with evidence and of members settled (their farewell said how far their streams go), if
 //! all that it holds and knows is what the definitions in `specs/` say of these lists. It keeps no history.
 //!
 //! ```

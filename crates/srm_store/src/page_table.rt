@@ -37,7 +37,7 @@ impl PageTable {
         Ok(PageTable { pages })
     }
 
-    /// Returns the pages, by slot.
+    /// Returns the pages, by page slot.
     pub fn as_slice(&self) -> &[Page]
         ensures value { result.now ≡ self.now }
         ensures table { IsPageTable result.now }
@@ -45,14 +45,14 @@ impl PageTable {
         self.pages.as_slice()
     }
 
-    /// Returns the page of a slot, or `None` if the slot is free.
+    /// Returns the page of a page slot, 0 to 7, or `None` if the slot is free. Any greater number is a free one.
     pub fn get(&self, slot: u8) -> Option<Page>
         ensures { result ≡ slice_get self.now slot }
     {
         self.pages.get(usize::from(slot)).copied()
     }
 
-    /// Returns the slot of a page, or the number of pages if it has none.
+    /// Returns the page slot of a page, or the number of pages if it has none.
     pub fn slot_of(&self, page: &Page) -> usize
         ensures value { result ≡ slot_of self.now page.now }
         ensures last { result ≤ PAGES }
@@ -66,14 +66,14 @@ impl PageTable {
         self.pages.len()
     }
 
-    /// Whether a page has a slot, or one is free.
+    /// Returns whether a page has a page slot, or one is free.
     pub fn has_room(&self, page: &Page) -> bool
         ensures { result ≡ not (table_lacks_room self.now page.now) }
     {
         self.slot_of(page) < usize::from(PAGES)
     }
 
-    /// Gives a page the next slot, unless it has one. The caller shows that one is free. Takes no memory.
+    /// Gives a page the next page slot, unless it has one. The caller shows that one is free. Takes no memory.
     pub fn add(&mut self, page: Page)
         requires { table_lacks_room self.old page ≡ false }
         ensures { self.new ≡ with_page self.old page }
@@ -83,7 +83,7 @@ impl PageTable {
         }
     }
 
-    /// Whether too few slots are free for the pages of these names. Takes no memory.
+    /// Returns whether too few page slots are free for the pages of these names. Takes no memory.
     pub fn lacks_room_for(&self, names: &[Name]) -> bool
         ensures { result ≡ table_lacks_room_for self.now names.now }
     {
@@ -105,7 +105,7 @@ impl PageTable {
         false
     }
 
-    /// Gives each page of these names a slot, in order. The caller shows that there are enough. Takes no memory.
+    /// Gives each page of these names a page slot, in order. The caller shows that there are enough. Takes no memory.
     pub fn add_all(&mut self, names: &[Name])
         requires { table_lacks_room_for self.old names.now ≡ false }
         ensures { self.new ≡ with_pages_of self.old names.now }

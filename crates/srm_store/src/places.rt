@@ -33,6 +33,7 @@ impl Model for Places {
 }
 
 impl Places {
+    /// Makes no places. Takes no memory.
     pub fn new(alloc: Global) -> Self
         ensures { result ≡ [] }
     {
@@ -66,7 +67,7 @@ impl Places {
         self.blocks[(number / BLOCK) as usize].put((number % BLOCK) as usize, drawop);
     }
 
-    /// What is at a place.
+    /// Returns what is at a place.
     pub fn get(&self, number: u32) -> Option<&Drawop>
         ensures { option_copied result ≡ place_at self.now number }
     {
@@ -74,7 +75,7 @@ impl Places {
         block.get((number % BLOCK) as usize)
     }
 
-    /// The number up to which places are filled, which is at least this one.
+    /// Returns the number up to which places are filled, which is at least this one.
     pub fn filled_from(&self, last: u32) -> u32
         requires last { last ≤ DRAWOPS }
         requires filled { (n : ℕ) → 1 ≤ n → n ≤ last → IsSome (place_at self.now n) }

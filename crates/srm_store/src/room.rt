@@ -28,6 +28,7 @@ impl Model for Room {
 }
 
 impl Room {
+    /// Makes room for `count` names. Fails only if out of memory.
     pub fn new(alloc: Global, name: Name, count: usize) -> Result<Room, AllocError>
         ensures { IfOk result (λ room. (room.name ≡ name) × (count ≤ room.capacity)) }
     {
@@ -37,13 +38,14 @@ impl Room {
         })
     }
 
-    /// Whether it is for this name, and has room for so many.
+    /// Returns whether it is for this name, and has room for so many.
     pub fn fits(&self, name: Name, count: usize) -> bool
         ensures { result ≡ is_room_for name count self.now }
     {
         self.name == name && count <= self.list.capacity()
     }
 
+    /// Returns the empty list.
     pub fn into_list(self) -> Vec<Name>
         ensures items { result.items ≡ [] }
         ensures capacity { vec_capacity result ≡ self.capacity }

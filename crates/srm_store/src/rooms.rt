@@ -27,6 +27,7 @@ impl Model for Rooms {
 }
 
 impl Rooms {
+    /// Makes no room. Takes no memory.
     pub fn new(alloc: Global) -> Self
         ensures { result ≡ [] }
     {

@@ -85,7 +85,8 @@ impl Store {
     ///
     /// # Errors
     ///
-    /// [`StoreFault::PageLimit`] if the pages of the names don't all find slots: nothing has changed. [`StoreFault::Memory`].
+    /// [`StoreFault::PageLimit`] if the pages of the names don't all find page slots: nothing has changed. [`StoreFault::Memory`] if out of memory: earlier room
+    /// stays.
     pub fn room_to_learn(&mut self, names: &[Name]) -> Result<(), StoreFault>
         ensures kept { StoreStays self.old self.new }
         ensures before { StoreStays self.new self.old }
@@ -267,7 +268,7 @@ impl Store {
         Ok(names)
     }
 
-    /// Whether a drawop of this name is held. Takes no memory.
+    /// Returns whether a drawop of this name is held. Takes no memory.
     pub fn holds(&self, name: Name) -> bool
         ensures { (inserted : List ADrawop) (evidence : List FullName) (settled : List Settling) → StoreFits inserted evidence settled self.now
             → result ≡ is_held inserted name }

@@ -36,6 +36,7 @@ impl Model for StreamPlaces {
 }
 
 impl StreamPlaces {
+    /// Makes a stream with nothing held or known. Takes no memory.
     pub fn new(alloc: Global) -> Self
         ensures { result ≡ blank_stream }
     {
@@ -46,18 +47,21 @@ impl StreamPlaces {
         }
     }
 
+    /// Returns the drawop that is held under a number.
     pub fn get(&self, number: u32) -> Option<&Drawop>
         ensures { option_copied result ≡ place_at self.now.places number }
     {
         self.places.get(number)
     }
 
+    /// Returns whether a drawop is held under a number.
     pub fn holds(&self, number: u32) -> bool
         ensures { result ≡ is_some (place_at self.now.places number) }
     {
         self.get(number).is_some()
     }
 
+    /// Returns the greatest number that is known to exist, or 0.
     pub fn known(&self) -> u32
         ensures value { result ≡ self.now.known }
         ensures last { result ≤ DRAWOPS }
@@ -65,7 +69,7 @@ impl StreamPlaces {
         self.known
     }
 
-    /// The number up to which all are held.
+    /// Returns the greatest number that is held with all below it, or 0.
     pub fn released(&self) -> u32
         ensures value { FilledTo self.now.places result }
         ensures last { result ≤ DRAWOPS }
@@ -103,7 +107,7 @@ impl StreamPlaces {
         Ok(Insert::Fresh)
     }
 
-    /// A number is known to exist, and all below it.
+    /// Notes that a number is known to exist, and all below it.
     pub fn know(&mut self, number: u32)
         requires { number ≤ DRAWOPS }
         ensures { self.new ≡ record self.old { known = max self.old.known number } }

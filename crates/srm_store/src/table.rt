@@ -62,7 +62,7 @@ impl Table {
         self.pages.slot_of(&page)
     }
 
-    /// The slot that a page has, or gets when it is named.
+    /// Returns the slot that a page has, or gets when it is named.
     pub fn slot_for(&self, page: Page) -> Result<usize, StoreFault>
         ensures value { IfOk result (λ slot. slot ≡ slot_of self.now.pages page) }
         ensures below { IfOk result (λ slot. slot < PAGES) }
@@ -77,7 +77,7 @@ impl Table {
         Ok(slot)
     }
 
-    /// The places of a stream. Those on a page without a slot are blank.
+    /// Returns the places of a stream. Those on a page without a slot are blank.
     pub fn places_of_stream(&self, stream: Stream) -> &StreamPlaces
         ensures value { result.now ≡ places_of_stream self.now stream }
         ensures source { stream.source < MEMBERS }
@@ -86,7 +86,7 @@ impl Table {
         &self.streams[place(slot, stream.source)]
     }
 
-    /// The names of a stream after a number, so many of them, that aren't held, in an empty list.
+    /// Returns the names of a stream after a number, so many of them, that aren't held, in an empty list.
     pub fn unheld(
         &self,
         list: Vec<Name>,
@@ -121,7 +121,7 @@ impl Table {
         Ok(answer)
     }
 
-    /// A name is known to exist, and all lower ones of its stream.
+    /// Notes that a name is known to exist, and all lower ones of its stream.
     pub fn learn(&mut self, name: Name)
         requires { slot_of self.old.pages name.stream.page < PAGES }
         ensures learns { TableLearns name self.old self.new }
@@ -133,7 +133,7 @@ impl Table {
         self.pages.add(stream.page);
     }
 
-    /// Whether too few slots are free for the pages of these names. Takes no memory.
+    /// Returns whether too few slots are free for the pages of these names. Takes no memory.
     pub fn lacks_room_for(&self, names: &[Name]) -> bool
         ensures { result ≡ table_lacks_room_for self.now.pages names.now }
     {

@@ -87,7 +87,7 @@ pub come_ran_out : (now : ℕ) (o : Option Armed) → has_come now (option_map r
 come_ran_out now None = refl
 come_ran_out now (Some a) = refl
 
--- what has come by the expiries that are kept are the timers that ran out
+-- what has expired by the expiries that are kept are the timers that ran out
 pub due_ran_out : (now : ℕ) (expiries : List (NamedValue ℕ)) (timer : FullName → Option Armed) (names : List FullName) → ((n : FullName) → value_at expiries n ≡ option_map runs_out_at (timer n))
     → AreExactly (λ n. has_come now (value_at expiries n)) names → AreExactly (λ n. ran_out now (timer n)) names
 due_ran_out now expiries timer names right due = record {

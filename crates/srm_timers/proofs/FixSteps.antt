@@ -115,7 +115,7 @@ map_if : {X Y : Type 0} (f : X → Y) (b : Bool) (o p : Option X) → option_map
 map_if f true o p = refl
 map_if f false o p = refl
 
--- a repair was heard or handed out
+-- a repair was heard or made
 fits_ended : (d1 d2 : ℕ) (calls : List FixCall) (name : FullName) (until : ℕ) (a b : FixContent) → FixFits d1 d2 calls a → b.d1 ≡ a.d1 → b.d2 ≡ a.d2
     → KeepsValues a.askers b.askers → Sets name None a.expiries.places b.expiries.places
     → ((n : FullName) (now : ℕ) → nat_lt now (unwrap_or (value_at b.held_off n) 0) ≡ nat_lt now (unwrap_or (value_at a.held_off n) 0) || same_name n name && nat_lt now until)

@@ -1,4 +1,4 @@
--- Arms: when they run out, their ignore moments, on which basis they are made, and how their waits are chosen.
+-- Timers that are set (`Arm`): when they run out, their ignore moments, how they come about, and how their waits are chosen.
 use Rattle.std.specs.Prelude.{◌≡◌, ℕ, ◌==◌, ◌+◌, ◌-◌, ◌*◌, ◌/◌, ◌%◌, ◌^◌, ◌<◌, ◌≤◌, min, nat_le, Bool, true, false, ◌||◌, List, [], ◌∷◌, map, find, if◌then◌else◌, Option, Some, None, option_map, IsNone, IfSome}
 use Rattle.std.specs.List.{AllByRecursion}
 use Rattle.srm_names.specs.declared.limits.TheConstants.{MEMBERS}
@@ -27,16 +27,16 @@ abbrev pub ran_out : ℕ → Option Armed → Bool
 ran_out now None = false
 ran_out now (Some a) = nat_le (runs_out_at a) now
 
--- the exponent of the arm after this one
+-- the exponent of the timer after this one
 abbrev pub next_exponent : Armed → ℕ
 next_exponent a = min GREATEST_EXPONENT (a.arm.exponent + 1)
 
--- the exponent with which a request that is heard arms again, where it isn't ignored
+-- the exponent of the timer that a heard request sets again, if it isn't ignored
 abbrev pub backs_off : ℕ → Option Armed → Option ℕ
 backs_off now None = None
 backs_off now (Some a) = if (a.arm.exponent == 0) || nat_le (ignored_until a) now then Some (next_exponent a) else None
 
--- an arm but for its name and its wait
+-- an `Arm` but for its name and its wait
 pub record WaitBasis : Type 0 where
   pub kind : ArmKind
   pub exponent : ℕ
@@ -45,7 +45,7 @@ pub record WaitBasis : Type 0 where
 abbrev pub wait_basis : Arm → WaitBasis
 wait_basis a = record { kind = a.kind; exponent = a.exponent; distance = a.distance }
 
--- an arm but for its wait
+-- an `Arm` but for its wait
 pub record Plan : Type 0 where
   pub name : FullName
   pub wait_basis : WaitBasis
@@ -62,7 +62,7 @@ arm_names arms = map arm_name arms
 abbrev pub arm_of : FullName → List Arm → Option Arm
 arm_of n arms = find (λ a. same_name n a.name) arms
 
--- arms of requests, and arms of repairs
+-- request timers, and repair timers
 pub record IsAsk (a : Arm) : Type 0 where
   pub kind : a.kind ≡ Ask
   pub exponent : a.exponent ≤ GREATEST_EXPONENT
@@ -86,14 +86,14 @@ pub record ArmsAre (bases : FullName → Option WaitBasis) (arms : List Arm) : T
 pub record AreOfMembers (arms : List Arm) : Type 0 where
   pub each : AllByRecursion (λ a. a.name.stream.source < MEMBERS) arms
 
--- the bounds of the range from which the wait of an arm is chosen, by the two settings of its kind
+-- the bounds of the range that a timer's wait is chosen from, by the two settings of its kind
 abbrev pub low_of : ℕ → Arm → ℕ
 low_of first a = 2 ^ a.exponent * first * a.distance
 
 abbrev pub high_of : ℕ → ℕ → Arm → ℕ
 high_of first second a = 2 ^ a.exponent * (first + second) * a.distance
 
--- The waits of the arms are chosen by the next words, one word an arm, in order, each between its bounds; `to` is what is left of the words.
+-- The waits of the arms are chosen by the next random numbers, one an arm, in order, each between its bounds; `to` is the generator after them.
 abbrev pub AreChosen : {W : Type 0} → (W → ℕ × W) → (low high : Arm → ℕ) → W → List Arm → W → Type 0
 AreChosen next_word low high from [] to = to ≡ from
 AreChosen next_word low high from (a ∷ arms) to = (a.wait ≡ low a + (next_word from).0 % (high a - low a + 1)) × AreChosen next_word low high (next_word from).1 arms to

@@ -14,7 +14,7 @@ use Rattle.srm_timers.specs.Distances.{distance_to}
 use Rattle.srm_timers.specs.Expiries.{ExpiryContent, HaveRoom, KeepsRoom}
 use Rattle.srm_deadlines.specs.Places.{value_at, has_place}
 
--- what an Asks keeps
+-- what an `Asks` keeps
 pub record AskContent : Type 0 where
   pub c1 : ℕ
   pub c2 : ℕ
@@ -102,11 +102,11 @@ pub record ArmsOfFound (names asked : List FullName) (dist : List ℕ) (arms : L
 pub record ArmsSetAgain (now : ℕ) (dist : List ℕ) (a : AskContent) (arms : List Arm) : Type 0 where
   pub each : (c1 c2 : ℕ) (calls : List AskCall) → AskFits c1 c2 calls a → ArmsAre (due_basis now dist (ask_timer calls)) arms
 
--- the exponent with which a request for the name, heard now, arms it again, and none where it is ignored or no timer runs
+-- the exponent of the timer that a request for the name, heard now, sets again, and none where it is ignored or no timer runs
 pub record AskExponentWhenHeard (name : FullName) (now : ℕ) (a : AskContent) (exponent : Option ℕ) : Type 0 where
   pub each : (c1 c2 : ℕ) (calls : List AskCall) → AskFits c1 c2 calls a → exponent ≡ backs_off now (ask_timer calls name)
 
--- the exponent with which the name is armed again where its timer ran out, and none where no timer runs
+-- the exponent of the timer that is set again where the name's timer ran out, and none where no timer runs
 pub record AskExponentWhenDue (name : FullName) (a : AskContent) (exponent : Option ℕ) : Type 0 where
   pub each : (c1 c2 : ℕ) (calls : List AskCall) → AskFits c1 c2 calls a → exponent ≡ option_map next_exponent (ask_timer calls name)
 

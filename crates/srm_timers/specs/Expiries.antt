@@ -21,11 +21,11 @@ pub record ExpiryContent : Type 0 where
 abbrev pub expiry_of : ℕ → Arm → ℕ
 expiry_of now a = runs_out_at (armed_at now a)
 
--- the end of an arm that is set at a moment
+-- when a timer ends that is set at a moment
 abbrev pub timed_at : ℕ → Arm → Timed
 timed_at now a = record { name = a.name; moment = expiry_of now a }
 
--- the arms run from now on
+-- these timers run from now on
 pub record SetsExpiries (now : ℕ) (arms : List Arm) (old new : List (NamedValue ℕ)) : Type 0 where
   pub each : (n : FullName) → value_at new n ≡ or_else (option_map (expiry_of now) (arm_of n arms)) (value_at old n)
 

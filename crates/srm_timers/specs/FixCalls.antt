@@ -17,7 +17,7 @@ use Rattle.srm_timers.specs.Distances.{distance_to}
 use Rattle.srm_timers.specs.Expiries.{ExpiryContent, HaveRoom, KeepsRoom}
 use Rattle.srm_deadlines.specs.Places.{value_at, has_place}
 
--- what a Fixes keeps
+-- what a `Fixes` keeps
 pub record FixContent : Type 0 where
   pub d1 : ℕ
   pub d2 : ℕ
@@ -68,7 +68,7 @@ calls_hold_off calls n now = list_any (call_holds_off n now) calls
 abbrev pub is_free : List FixCall → FullName → ℕ → Bool
 is_free calls n now = not (is_some (fix_timer calls n)) && not (calls_hold_off calls n now)
 
--- these arms were made at a moment, one after another
+-- these timers were set at a moment, one after another
 abbrev pub sets_fix : ℕ → List Arm → List FixCall
 sets_fix now arms = map (SetFix now) arms
 
@@ -138,7 +138,7 @@ pub record FixIsFree (name : FullName) (now : ℕ) (a : FixContent) (free : Bool
 pub record FixFirstAsker (name : FullName) (a : FixContent) (member : ℕ) : Type 0 where
   pub each : (d1 d2 : ℕ) (calls : List FixCall) → FixFits d1 d2 calls a → member ≡ first_asker calls name
 
--- a request of the name that is held, or isn't, sets such an arm
+-- a request for a name that is held, or isn't, sets such a timer
 pub record NotesRequest (name : FullName) (distance : ℕ) (held : Bool) (now : ℕ) (a : FixContent) (arm : Option Arm) : Type 0 where
   pub each : (d1 d2 : ℕ) (calls : List FixCall) → FixFits d1 d2 calls a
       → option_map plan_of arm ≡ (if held && is_free calls name now then Some (fix_plan name distance) else None)

@@ -1,4 +1,4 @@
--- The definitions of arms and timers at worked examples.
+-- The definitions of timers at worked examples.
 use Rattle.std.specs.Prelude.{◌≡◌, ℕ, true, false, [], ◌∷◌, Some, None, option_map, refl}
 use Rattle.srm_names.specs.FullName.{FullName}
 use Rattle.srm_names.specs.Names.{first_page, named}
@@ -81,7 +81,7 @@ repair_high = refl
 doubled_high : high_of 2 3 (ask 1 1 100000 0) ≡ 1000000
 doubled_high = refl
 
--- the last word of the range, and the one past it
+-- the last random number of the range, and the one past it
 chosen_in_order : AreChosen next_listed (low_of 2) (high_of 2 2) (200000 ∷ 200001 ∷ 7 ∷ []) (ask 1 0 100000 400000 ∷ ask 2 0 100000 200000 ∷ []) (7 ∷ [])
 chosen_in_order = (refl, (refl, refl))
 
@@ -195,7 +195,7 @@ by_the_first_of_two = refl
 both_are_held_off : repair_calls 10 (5 ∷ 7 ∷ []) (Asked (name 1) 1 ∷ []) (name 1 ∷ name 2 ∷ []) ≡ Repaired (name 1) 31 ∷ Repaired (name 2) 25 ∷ []
 both_are_held_off = refl
 
--- ---- words
+-- ---- random numbers
 
 next_word : next_listed (5 ∷ 7 ∷ []) ≡ (5, 7 ∷ [])
 next_word = refl

@@ -8,10 +8,10 @@ use Rattle.srm_deadlines.specs.declared.by_name.NamedValue.{NamedValue}
 use Rattle.srm_timers.specs.Arms.{arm_of}
 use Rattle.srm_deadlines.specs.Places.{value_at}
 
--- an arm that is set at a moment
+-- a timer (`Arm`) that is set at a moment
 abbrev pub armed_at : ℕ → Arm → Armed
 armed_at now a = record { set = now; arm = a }
 
--- the arms run from now on
+-- these timers run from now on
 pub record SetsTimers (now : ℕ) (arms : List Arm) (old new : List (NamedValue Armed)) : Type 0 where
   pub each : (n : FullName) → value_at new n ≡ or_else (option_map (armed_at now) (arm_of n arms)) (value_at old n)

@@ -24,6 +24,7 @@ impl ArmKind {
 /// A timer that was set.
 #[derive(Clone, Copy, Debug, PartialEq, Eq)]
 pub struct Arm {
+    /// What it is for.
     pub kind: ArmKind,
     /// The drawop that it is about.
     pub name: Name,
@@ -35,9 +36,11 @@ pub struct Arm {
     pub wait: u64,
 }
 
-/// A timer, and the moment in microseconds at which it was set.
+/// A timer, and the moment when it was set, in microseconds. It is for contracts: no call takes or returns one.
 #[derive(Clone, Copy, Debug, PartialEq, Eq)]
 pub struct Armed {
+    /// When it was set, in microseconds.
     pub set: u64,
+    /// The timer.
     pub arm: Arm,
 }

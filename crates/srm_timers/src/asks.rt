@@ -26,8 +26,8 @@ use std::mem;
 
 /// The request timers of a member: one for each missing name.
 ///
-/// Moments are microseconds, at most 2^48, and distances microseconds, at most 10,000,000. After an error nothing has changed, and no
-/// random number was consumed.
+/// Moments are microseconds, at most 2^48, and distances microseconds, at most 10,000,000. `dist` has the distance to each member by its number, as `Distances::all`
+/// returns it. After an error nothing has changed, and no random number was consumed.
 #[derive(Drop)]
 pub struct Asks<D: Deadlines> {
     alloc: Global,
@@ -55,8 +55,8 @@ impl<D: Deadlines> Model for Asks<D> {
 }
 
 impl<D: Deadlines> Asks<D> {
-    /// Makes request timers. None runs. The first wait for a name lies between `c1` and `c1 + c2` distances to its source. Takes no
-    /// memory.
+    /// Makes request timers over deadlines without places. None runs. The first wait for a name lies between `c1` and `c1 + c2` distances to its source; each is 0
+    /// to 16. Takes no memory.
     pub fn new(alloc: Global, deadlines: D, c1: u8, c2: u8) -> Self
         requires empty { D.places deadlines ≡ [] }
         requires c1 { c1 ≤ GREATEST_TIMER_SETTING }
@@ -158,7 +158,7 @@ impl<D: Deadlines> Asks<D> {
         Ok(arms)
     }
 
-    /// Adds the arms of names that were found missing to an empty list that has room for them.
+    /// Adds the timers of names that were found missing to an empty list that has room for them.
     fn found<W: Words>(
         &self,
         mut arms: Vec<Arm>,
@@ -185,8 +185,8 @@ impl<D: Deadlines> Asks<D> {
         arms
     }
 
-    /// Notes a request for a name that another sent: sets its timer again, one exponent higher, and returns it. Returns `None` if no
-    /// timer runs, or if its exponent isn't 0 and the request comes before its ignore moment. Takes no memory.
+    /// Notes a request for a name that another sent: sets its timer again, one exponent higher, and returns it. Returns `None` if no timer runs, or if its exponent
+    /// isn't 0 and the request comes before its ignore moment. Consumes one random number if it returns a timer. Takes no memory.
     pub fn heard_request<W: Words>(
         &mut self,
         name: Name,
@@ -286,8 +286,8 @@ impl<D: Deadlines> Asks<D> {
         Ok(mem::replace(&mut self.names, Vec::new(self.alloc)))
     }
 
-    /// Sets the timers of these names, which rise and have timers, again, each one exponent higher: what `due` does with the names that
-    /// [`pending`](Asks::pending) returns, for a caller that has these. Fails only if out of memory.
+    /// Sets the timers of these names, which rise and have timers, again, each one exponent higher: what `due` does with the names that [`pending`](Asks::pending)
+    /// returns, for a caller that has these. Consumes one random number for each. Fails only if out of memory.
     #[tactic(auto, using(crate::proofs::AskSteps::sets_then, crate::proofs::AskSteps::again_rise, crate::proofs::AskSteps::stays_kept, crate::proofs::AskSteps::keeps_self, crate::proofs::Fitting::as_many))]
     pub fn set_again<W: Words>(
         &mut self,
@@ -321,7 +321,7 @@ impl<D: Deadlines> Asks<D> {
         Ok(again)
     }
 
-    /// Adds the arms with which names that have a timer are armed again to an empty list that has room for them.
+    /// Adds the timers that are set again, for names that have one, to an empty list that has room for them.
     fn again<W: Words>(
         &self,
         mut arms: Vec<Arm>,
@@ -347,7 +347,7 @@ impl<D: Deadlines> Asks<D> {
         arms
     }
 
-    /// Returns the first moment at which a timer expires; `None` if none runs. Takes no memory.
+    /// Returns when the first timer expires, in microseconds; `None` if none runs. Takes no memory.
     #[tactic(auto, using(crate::proofs::AskSteps::next_is))]
     pub fn next(&self) -> Option<u64>
         ensures { AskNext self.now result }
@@ -376,7 +376,8 @@ impl<D: Deadlines> Asks<D> {
         exponent_after(self.timers.get(name))
     }
 
-    /// Chooses the wait of a timer with one random number. Sets no timer.
+    /// Returns a request timer for a name, with an exponent, 0 to 8, and over a distance in microseconds, at most 10,000,000. Consumes one random number for its
+    /// wait. Sets no timer.
     pub fn arm<W: Words>(&self, name: Name, exponent: u8, distance: u64, words: &mut W) -> Arm
         requires exponent { exponent ≤ GREATEST_EXPONENT }
         requires distance { distance ≤ LONGEST_DISTANCE }
@@ -440,7 +441,7 @@ fn is_among(names: &[Name], name: Name) -> bool
     names.iter().any(|other| name == *other)
 }
 
-/// The exponent of the arm after this one.
+/// The exponent of the timer after this one.
 fn after(armed: Armed) -> u8
     ensures value { result ≡ next_exponent armed }
     ensures range { result ≤ GREATEST_EXPONENT }
@@ -452,7 +453,7 @@ fn after(armed: Armed) -> u8
     }
 }
 
-/// The exponent of the arm after this timer, if it runs.
+/// The exponent of the timer after this one, if it runs.
 fn exponent_after(timer: Option<Armed>) -> Option<u8>
     ensures value { result ≡ option_map next_exponent timer }
     ensures range { IfSome result (λ exponent. exponent ≤ GREATEST_EXPONENT) }
@@ -460,7 +461,7 @@ fn exponent_after(timer: Option<Armed>) -> Option<u8>
     Some(after(timer?))
 }
 
-/// The exponent of the arm after a request that isn't ignored.
+/// The exponent of the timer after a request that isn't ignored.
 fn backed_off(timer: Option<Armed>, now: u64) -> Option<u8>
     ensures value { result ≡ backs_off now timer }
     ensures range { IfSome result (λ exponent. exponent ≤ GREATEST_EXPONENT) }

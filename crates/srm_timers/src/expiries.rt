@@ -1,4 +1,4 @@
-//! The moments at which timers run out.
+//! When timers expire.
 
 ghost use Rattle.std.specs.Prelude.{◌≡◌, ◌≤◌, ◌+◌, ◌++◌, true, map, length, vec_len, vec_capacity, Some, None, OnOk, IsOk};
 ghost use Rattle.srm_names.specs.Names.{AreExactly, ascending, name_below};
@@ -33,6 +33,7 @@ impl<D: Deadlines> Model for Expiries<D> {
 }
 
 impl<D: Deadlines> Expiries<D> {
+    /// Makes expiries over deadlines, with an empty list. Takes no memory.
     pub fn new(alloc: Global, deadlines: D) -> Self
         ensures { result.places ≡ D.places deadlines }
     {
@@ -73,13 +74,14 @@ impl<D: Deadlines> Expiries<D> {
         self.moments.reserve(count)
     }
 
+    /// Returns when the timer of a name expires, in microseconds; `None` if none runs.
     pub fn get(&self, name: Name) -> Option<u64>
         ensures { result ≡ value_at self.now.places name }
     {
         self.deadlines.get(name)
     }
 
-    /// One timer runs until a moment.
+    /// Lets one timer run until a moment.
     pub fn set(&mut self, name: Name, moment: u64)
         requires { has_place self.old.places name ≡ true }
         ensures sets { Sets name (Some moment) self.old.places self.new.places }
@@ -88,7 +90,7 @@ impl<D: Deadlines> Expiries<D> {
         self.deadlines.set(name, moment);
     }
 
-    /// These timers run from now on.
+    /// Lets these timers run from now on.
     pub fn set_all(&mut self, now: u64, arms: &[Arm])
         requires rising { ascending name_below (arm_names arms.now) ≡ true }
         requires room { HaveRoom (arm_names arms.now) self.old }
@@ -102,6 +104,7 @@ impl<D: Deadlines> Expiries<D> {
         self.moments.clear();
     }
 
+    /// Clears the timer of a name, if one runs.
     pub fn clear(&mut self, name: Name)
         ensures sets { Sets name None self.old.places self.new.places }
         ensures keeps_room { KeepsRoom self.old self.new }
@@ -109,7 +112,7 @@ impl<D: Deadlines> Expiries<D> {
         self.deadlines.clear(name);
     }
 
-    /// The timers of names that rise are gone.
+    /// Clears the timers of names that rise.
     pub fn clear_all(&mut self, names: &[Name])
         requires { ascending name_below names.now ≡ true }
         ensures sets { ClearsAll names.now self.old.places self.new.places }
@@ -127,7 +130,7 @@ impl<D: Deadlines> Expiries<D> {
         self.deadlines.due(now, names)
     }
 
-    /// The least moment.
+    /// Returns the least moment.
     pub fn next(&self) -> Option<u64>
         ensures { IsLeast self.now.places result }
     {
@@ -135,7 +138,7 @@ impl<D: Deadlines> Expiries<D> {
     }
 }
 
-/// Adds the moments at which arms that are set now run out.
+/// Adds when timers that are set now expire.
 fn add_moments(moments: &mut Vec<Timed>, now: u64, arms: &[Arm])
     requires room { vec_len moments.old + length arms.now ≤ vec_capacity moments.old }
     requires now { now ≤ LATEST_MOMENT }

@@ -50,7 +50,8 @@ impl<D: Deadlines> Model for Fixes<D> {
 }
 
 impl<D: Deadlines> Fixes<D> {
-    /// Makes repair timers. None runs. A wait lies between `d1` and `d1 + d2` distances to the member that asks. Takes no memory.
+    /// Makes repair timers over deadlines without places. None runs. A wait lies between `d1` and `d1 + d2` distances to the member that asks; each is 0 to 16.
+    /// Takes no memory.
     pub fn new(alloc: Global, deadlines: D, d1: u8, d2: u8) -> Self
         requires empty { D.places deadlines ≡ [] }
         requires d1 { d1 ≤ GREATEST_TIMER_SETTING }
@@ -109,8 +110,8 @@ impl<D: Deadlines> Fixes<D> {
         self.marks.room(names)
     }
 
-    /// Notes a request for a name. The first member that asks counts as its first asker, whether the name is held or not. Sets a timer
-    /// and returns it if the name is held, none of its timers runs and it isn't held off.
+    /// Notes a request for a name. The first member that asks counts as its first asker, whether the name is held or not. Sets a timer and returns it, and consumes
+    /// one random number, if the name is held, none of its timers runs and it isn't held off; else returns `None`.
     ///
     /// Fails only if out of memory.
     #[tactic(auto, using(crate::proofs::FixSteps::adds_after, crate::proofs::FixSteps::answers_after))]
@@ -138,7 +139,7 @@ impl<D: Deadlines> Fixes<D> {
         Ok(self.note_request(name, from, held, dist, now, words))
     }
 
-    /// Does the same for a name that has room. Takes no memory.
+    /// Does what [`heard_request`](Fixes::heard_request) does, for a name that has room. Takes no memory.
     #[tactic(auto, using(crate::proofs::FixSteps::asks_then_sets, crate::proofs::FixSteps::answers_with, crate::proofs::FixSteps::answers_not))]
     pub fn note_request<W: Words>(
         &mut self,
@@ -258,7 +259,7 @@ impl<D: Deadlines> Fixes<D> {
         self.repair_all(&[name], dist, now);
     }
 
-    /// Returns the first moment at which a timer expires; `None` if none runs. Takes no memory.
+    /// Returns when the first timer expires, in microseconds; `None` if none runs. Takes no memory.
     #[tactic(auto, using(crate::proofs::FixSteps::fix_next_is))]
     pub fn next(&self) -> Option<u64>
         ensures { FixNext self.now result }
@@ -266,7 +267,7 @@ impl<D: Deadlines> Fixes<D> {
         self.expiries.next()
     }
 
-    /// Whether a request for a held name, heard now, sets its timer: none runs, and the name isn't held off. Takes no memory.
+    /// Returns whether a request for a held name, heard now, sets its timer: none runs, and the name isn't held off. Takes no memory.
     #[tactic(auto, using(crate::proofs::FixSteps::is_free_is))]
     pub fn is_free(&self, name: Name, now: u64) -> bool
         ensures { FixIsFree name now self.now result }
@@ -296,7 +297,7 @@ impl<D: Deadlines> Fixes<D> {
         self.marks.note(name, from);
     }
 
-    /// Chooses the wait of a timer with one random number. Sets no timer.
+    /// Returns a repair timer for a name, over a distance in microseconds, at most 10,000,000. Consumes one random number for its wait. Sets no timer.
     pub fn arm<W: Words>(&self, name: Name, distance: u64, words: &mut W) -> Arm
         requires { distance ≤ LONGEST_DISTANCE }
         ensures plan { plan_of result ≡ fix_plan name distance }

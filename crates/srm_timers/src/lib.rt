@@ -1,5 +1,7 @@
 //! Request timers ([`Asks`]) and repair timers ([`Fixes`]), suppressed by what is heard.
 //!
+//! A timer that was set is an [`Arm`]. [`Pcg`] is the generator of a member, [`Listed`] one for scripts and tests.
+//!
 //! Contracts speak of the calls so far: timers *fit* a list of calls, each with the timers that it set, if all that they keep is what
 //! the definitions in `specs/` say of this list. They keep no history.
 //!

@@ -21,6 +21,7 @@ impl Model for Listed {
 }
 
 impl Listed {
+    /// Makes a generator that returns these numbers in order, and then 0 for ever. Takes no memory.
     pub fn new(words: Vec<u64>) -> Listed
         ensures { result ≡ words.items }
     {

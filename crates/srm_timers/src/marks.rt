@@ -36,7 +36,7 @@ impl Model for Marks {
 }
 
 impl Marks {
-    /// Nobody asked for any name, and none is held off.
+    /// Makes marks: nobody asked for any name, and none is held off.
     pub fn new(alloc: Global) -> Self
         ensures askers { result.askers ≡ [] }
         ensures held_off { result.held_off ≡ [] }
@@ -72,14 +72,14 @@ impl Marks {
         }
     }
 
-    /// Who asked for a name first, else its source. Takes no memory.
+    /// Returns who asked for a name first, else its source. Takes no memory.
     pub fn asker(&self, name: Name) -> Member
         ensures { result ≡ asker_at self.now.askers name }
     {
         asker_or_source(&self.mark(name), name)
     }
 
-    /// Until when a name is held off, and 0 where it isn't. Takes no memory.
+    /// Returns until when a name is held off, and 0 if it isn't. Takes no memory.
     pub fn until(&self, name: Name) -> u64
         ensures { result ≡ unwrap_or (value_at self.now.held_off name) 0 }
     {

@@ -4,7 +4,7 @@ ghost use Rattle.std.specs.Prelude.{◌≡◌, ℕ, ◌+◌, ◌-◌, ◌%◌, �
 
 /// A source of random numbers of 64 bits that never ends.
 pub trait Words {
-    // the word that comes next, and the source after it
+    // the number that comes next, and the generator after it
     ghost next_word: { Self → ℕ × Self };
 
     /// Returns the next random number.
@@ -12,7 +12,8 @@ pub trait Words {
         ensures { (result, self.new) ≡ next_word self.old };
 }
 
-/// Returns a wait from `low` to `high` microseconds, both included: `low`, plus the next random number modulo the length of the range.
+/// Returns a wait from `low` to `high` microseconds, both included: `low`, plus the next random number modulo the length of the range. The caller shows that `low`
+/// isn't above `high`, and `high` below 2^63.
 pub fn wait_between<W: Words>(low: u64, high: u64, words: &mut W) -> u64
     requires rises { low ≤ high }
     requires small { high < 2 ^ 63 }

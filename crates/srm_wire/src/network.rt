@@ -11,8 +11,8 @@ use std::collections::VecDeque;
 use std::sync::{Arc, Mutex, Wait};
 
 #[tactic(auto, using(crate::proofs::Wiring::wiring_none, crate::proofs::Wiring::wiring_more))]
-/// Makes a network in memory, and returns the wires of members 0 to `members - 1`, in order. The k-th list of fates is member k's: its n-th
-/// copy gets the n-th fate, and passes if there is none.
+/// Makes a network in memory, and returns the wires of members 0 to `members - 1`, 32 at most, in order. `rt` locks its inboxes. The k-th list of fates is member
+/// k's: its n-th copy gets the n-th fate, and passes if there is none.
 ///
 /// Fails only if out of memory.
 pub fn hub<R: Wait + Copy + Drop>(

@@ -54,7 +54,8 @@ pub trait Wire {
         ensures tells { TellsMore [] (sent_by to datagram.now result) (told self.old) (told self.new) }
         ensures sends { sends self.old (bytes_to to datagram.now) (is_err result) self.new };
 
-    /// Receives the next datagram into the front of the buffer, and returns how many bytes it has there; `None` if none is there.
+    /// Receives the next datagram into the front of the buffer, and returns how many bytes it has there; `None` if none is there. A datagram longer than the buffer
+    /// is cut. It doesn't wait.
     ///
     /// Fails if the wire can't receive, which is counted and not told.
     fn receive(&mut self, buffer: &mut [u8]) -> Result<Option<usize>, WireFault>
@@ -63,7 +64,7 @@ pub trait Wire {
         ensures tells { TellsMore (answered buffer.new result) [] (told self.old) (told self.new) }
         ensures receives { receives self.old (length buffer.new) (answered buffer.new result) self.new };
 
-    /// Waits until a datagram may be there, or so many microseconds have passed. Nothing that the wire tells changes.
+    /// Waits until a datagram may be there, or `micros` microseconds have passed; it may return sooner. Nothing that the wire tells changes.
     fn pause(&mut self, micros: u64)
         ensures failures { failure_count self.old ≤ failure_count self.new }
         ensures tells { told self.new ≡ told self.old }

@@ -1,4 +1,4 @@
--- No entry of a run is of a call that failed for memory.
+-- No entry of a run is of a call that was out of memory.
 use Rattle.std.proofs.Common.{◌≢◌, ℕ, Bool, true, false, List, [], ◌∷◌, ◌++◌, sym, ◌∙◌}
 use Rattle.std.specs.List.{AllByRecursion}
 use Rattle.srm_names.specs.Histories.{steps_after}

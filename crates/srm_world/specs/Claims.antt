@@ -105,13 +105,12 @@ pub record IsLawful (t : Trace) : Type 0 where
 abbrev pub LawfulLaw : Type 0
 LawfulLaw = (t : Trace) → IsRun t → IsHonest t.entries → IsLawful t
 
--- none of the entries is of a call that failed for memory
+-- none of the entries is of a call that was out of memory
 abbrev pub NoneForMemory : List Entry → Type 0
 NoneForMemory es = AllByRecursion (λ (e : Entry). e.verdict ≢ Refused Memory) es
 
--- The journal is a run of its member, whatever came to it: timers, bucket, session messages and verdicts are right. So the member
--- responds in time, gives a page feed of what is released, and keeps its rate. No entry is a take, since a page worker takes and not the
--- agent. No entry is of a call that failed for memory.
+-- The journal is a run of its member, whatever came to it: timers, bucket, session messages and verdicts are right. So the member responds in time, gives a page
+-- feed of what is released, and keeps its rate. No entry is a take, since a page worker takes and not the agent. No entry is of a call that was out of memory.
 pub record IsLawfulJournal (j : Journal) : Type 0 where
   pub run : IsMemberRun j.start.config j.start.made j.entries
   pub responds : RespondsInTime j.start.config j.entries

@@ -9,41 +9,59 @@ use srm_names::Page;
 pub enum Event {
     /// A member draws on a page.
     Draw {
+        /// The member, by its number from 0.
         member: u8,
+        /// The moment, in microseconds, at most 2^48.
         now: u64,
+        /// The page.
         page: Page,
+        /// The bytes of the stroke. A member refuses more than 1,024.
         body: Bytes,
     },
     /// A datagram comes to a member. `index` is its number from 0 in the order of sending.
     Deliver {
+        /// The member, by its number from 0.
         member: u8,
+        /// The moment, in microseconds, at most 2^48.
         now: u64,
+        /// The number of the datagram, from 0 in the order of sending.
         index: usize,
     },
     /// A member requests, repairs and sends what is due.
     Tick {
+        /// The member, by its number from 0.
         member: u8,
+        /// The moment, in microseconds, at most 2^48.
         now: u64,
     },
     /// A member shows a page.
     Show {
+        /// The member, by its number from 0.
         member: u8,
+        /// The moment, in microseconds, at most 2^48.
         now: u64,
+        /// The page.
         page: Page,
     },
     /// A member begins to leave.
     Leave {
+        /// The member, by its number from 0.
         member: u8,
+        /// The moment, in microseconds, at most 2^48.
         now: u64,
     },
     /// A member gives the next message of a page slot to its worker.
     Give {
+        /// The member, by its number from 0.
         member: u8,
+        /// The page slot, 0 to 7.
         slot: u8,
     },
     /// The worker of a page slot takes the next message that it was given.
     Take {
+        /// The member, by its number from 0.
         member: u8,
+        /// The page slot, 0 to 7.
         slot: u8,
     },
 }

@@ -2,21 +2,21 @@
 
 ghost use Rattle.srm_world.specs.Claims.{LawfulLaw, RestLaw, TakesLaw};
 
-/// The law of takes. In every honest run of all members, what a page worker takes of a source is a prefix of what that source drew on the
+/// States the law of takes, and does nothing. In every honest run of all members, what a page worker takes of a source is a prefix of what that source drew on the
 /// page, each drawop once and in order. It is all of it once the source's leaving is taken.
 pub fn takes()
     ensures { TakesLaw }
 {}
 
-/// The law of rest. In every honest run of all members, two that are at rest on a page know of the same drawops there, and have released
-/// the same. Two members are at rest on a page if neither misses anything there, and each has heard a session message for the page that
-/// the other sent when it knew there all that it knows now.
+/// States the law of rest, and does nothing. In every honest run of all members, two that are at rest on a page know of the same drawops there, and have released
+/// the same. Two members are at rest on a page if neither misses anything there, and each has heard a session message for the page that the other sent when it knew
+/// there all that it knows now.
 pub fn rests()
     ensures { RestLaw }
 {}
 
-/// All laws hold of every honest run of all members, whatever made it: [`takes`], [`rests`], and that each member requests and repairs in
-/// time, gives what is released to it and keeps its rate.
+/// States that all laws hold of every honest run of all members, whatever made it, and does nothing: [`takes`], [`rests`], and that each member requests and repairs
+/// in time, gives what is released to it and keeps its rate.
 pub fn honest_runs_are_lawful()
     ensures { LawfulLaw }
 {}

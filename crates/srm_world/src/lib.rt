@@ -1,8 +1,11 @@
 //! Several members of one session, and what they did.
 //!
-//! [`World`] applies events to all members, and keeps a [`Trace`]. [`Recorder`] is one member that keeps its [`Journal`]. Two laws hold
-//! of every honest run: what page workers take was drawn ([`takes`]), and members at rest have released the same ([`rests`]).
-//! [`honest_runs_are_lawful`] says so for all laws at once, whatever made the run.
+//! [`World`] applies events to all members, and keeps a [`Trace`]. [`Recorder`] is one member that keeps its [`Journal`]. A run is honest
+//! if a member sent each datagram before another accepted it. Two laws hold of every honest run: what page workers take was drawn
+//! ([`takes`]), and members at rest have released the same ([`rests`]). [`honest_runs_are_lawful`] says so for all laws at once,
+//! whatever made the run.
+//!
+//! A recorder stores its entries in a [`Past`]: a `Vec`, or [`Forgotten`], which keeps none. A [`Start`] is how a member began.
 //!
 //! ```
 //! let mut world = World::new(alloc, configs, words)?;

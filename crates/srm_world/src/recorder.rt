@@ -113,7 +113,7 @@ impl<W: Words + Drop, P: Past<Entry> + Drop> Recorder<W, P> {
         self.agent.new_page()
     }
 
-    /// Returns the first moment at which a tick does something, as [`Agent::next_due`] does. Has no entry.
+    /// Returns when a tick next does something, in microseconds, as [`Agent::next_due`] does. Has no entry.
     pub fn next_due(&self) -> Option<u64>
         ensures { IsNextDue self.now.journal.start.config self.now.journal.start.made self.now.journal.entries result }
     {
@@ -135,7 +135,8 @@ impl<W: Words + Drop, P: Past<Entry> + Drop> Recorder<W, P> {
         self.agent.state()
     }
 
-    /// Draws on a page, and returns the name of the new drawop, as [`Agent::draw`] does.
+    /// Draws on a page, and returns the name of the new drawop, as [`Agent::draw`] does, with its faults. [`AgentFault::Memory`] may come before another: the entry
+    /// takes memory.
     #[tactic(auto, using(crate::proofs::Journaling::records_drawn, crate::proofs::Wording::no_words_recorded, crate::proofs::Journaling::kept_same, crate::proofs::Journaling::entries_same))]
     pub fn draw(&mut self, page: Page, body: Bytes, now: u64) -> Result<Name, AgentFault>
         requires { now ≤ LATEST_MOMENT }
@@ -222,7 +223,8 @@ impl<W: Words + Drop, P: Past<Entry> + Drop> Recorder<W, P> {
         answer
     }
 
-    /// Gives the next message of a page slot, 0 to 7, as [`Agent::give`] does.
+    /// Gives the next message of a page slot, 0 to 7, as [`Agent::give`] does. It may fail with [`AgentFault::Memory`] with nothing to give too: its entry takes
+    /// memory.
     pub fn give(&mut self, slot: u8) -> Result<Option<PageMsg>, AgentFault>
         requires { slot < PAGES }
         ensures records { Records None (Input.Gave slot) (λ e message. message ≡ e.effects.message) self.old.journal self.new.journal result }
@@ -235,7 +237,7 @@ impl<W: Words + Drop, P: Past<Entry> + Drop> Recorder<W, P> {
         answer
     }
 
-    /// Whether the rate would let a draw go at once, as [`Agent::admits_draw`] says. Has no entry.
+    /// Returns whether the rate would let a draw go at once, as [`Agent::admits_draw`] says. Has no entry.
     pub fn admits_draw(&self, body_length: usize, now: u64) -> bool
         ensures { AdmitsDraw self.now.journal.start.config self.now.journal.start.made self.now.journal.entries body_length now result }
     {

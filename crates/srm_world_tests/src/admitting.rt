@@ -10,7 +10,7 @@ use std::alloc::Global;
 use std::process::Abort;
 
 /// Draws a body of so many bytes on the first page, at moment 0.
-fn draw(rt: &impl Abort, alloc: Global, recorder: &mut Recorder<Listed>, length: usize) {
+pub(crate) fn draw(rt: &impl Abort, alloc: Global, recorder: &mut Recorder<Listed>, length: usize) {
     let body = body(alloc, 7, length).expect(rt, "a body");
     let _ = recorder.draw(Page::first(), body, 0);
 }

@@ -7,7 +7,7 @@ use std::alloc::{AllocError, Global};
 use std::process::Abort;
 use std::test::Fail;
 
-/// Nothing; the farewell of member 0 in session 7, by which it drew three on the first page; its fourth drawop there; a letter.
+/// Nothing; the farewell of member 0 in session 7, which says that it drew three on the first page; its fourth drawop there; a letter.
 const CAME: [&[u8]; 4] = [
     b"",
     b"SR\x01\x04\0\0\0\x07\0\0\0\0\0\0\0\0\x05\x01\0\0\0\x01\0\0\0\0\0\0\0\x03\0",

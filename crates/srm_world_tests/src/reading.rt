@@ -38,7 +38,7 @@ fn see(event: &Event) -> Seen {
     }
 }
 
-/// A script with a line of each kind, in which no number stands twice.
+/// A script with a line of each kind. No number stands twice in it.
 const EACH_KIND: &str = "members 32\nbucket 3 1051\nwords 0 50 60\nwords 30 70\ntimers\n\
     draw 1 2 3.4 a\ndeliver 5 6 7\ntick 8 9\nshow 10 11 12.13\nleave 14 15\ngive 16 17\ntake 18 19\n";
 

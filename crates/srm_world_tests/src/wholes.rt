@@ -1,4 +1,4 @@
-//! Worlds to which all events of a list happen in one call.
+//! Worlds where all events of a list happen in one call.
 
 use srm_agent::{AgentFault, Verdict};
 use srm_rig::repeated;
@@ -10,12 +10,12 @@ use std::fmt::Write;
 use std::process::Abort;
 use std::test::Fail;
 
-/// A script with an event of each kind, some of which are skipped.
+/// A script with an event of each kind. Some are skipped.
 const EACH_KIND: &str =
     "members 2\ndraw 0 1 0.0 a\ntick 0 2\ndeliver 1 3 1\ndeliver 1 3 0\nshow 1 4 0.1\n\
     give 1 8\ngive 1 0\ngive 1 0\ntake 1 0\ntake 1 0\ntake 2 0\nleave 0 5\ntick 0 6\ntick 0 7\n";
 
-/// The world of a script to which all events happened in one call.
+/// The world of a script where all events happened in one call.
 fn run_at_once(alloc: Global, text: &[u8]) -> Result<World<Listed>, ScriptFault> {
     let Script {
         configs,
@@ -28,7 +28,7 @@ fn run_at_once(alloc: Global, text: &[u8]) -> Result<World<Listed>, ScriptFault>
     Ok(world)
 }
 
-/// The world of a script to which the events happened one by one.
+/// The world of a script where the events happened one by one.
 fn run_one_by_one(alloc: Global, text: &[u8]) -> Result<World<Listed>, ScriptFault> {
     let Script {
         configs,

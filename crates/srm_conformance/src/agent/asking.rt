@@ -70,7 +70,7 @@ fn tell_admits_from<O: Write>(
     tell(out, "admits-from", &Maybe(from))
 }
 
-/// `M`: the distance to a member, by which timers wait.
+/// `M`: the distance to a member, as the timers' waits take it.
 fn tell_distance_to<O: Write>(
     agent: &Agent<Listed>,
     mut words: Words<'_>,

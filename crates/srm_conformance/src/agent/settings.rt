@@ -13,12 +13,12 @@ pub struct Settings {
     me: u8,
     session: u32,
     rate_and_more: srm_agent::Settings,
-    /// The words by which waits are chosen. Behind them come zeros.
+    /// The random numbers that choose the waits. Behind them come zeros.
     words: Vec<u64>,
 }
 
 impl Settings {
-    /// Member 2 of 4 in session 7, with no words, and for all else what most members take.
+    /// Member 2 of 4 in session 7, with no random numbers, and for all else what most members take.
     pub fn new(alloc: Global) -> Settings {
         Settings {
             members: 4,

@@ -11,7 +11,7 @@ use std::alloc::Global;
 use std::fmt;
 use std::fmt::{Display, Formatter};
 
-/// Reads a datagram, in the words in which one is printed, to the end of the line.
+/// Reads a datagram, spelled as one is printed, up to the end of the line.
 pub fn read_datagram(alloc: Global, mut words: Words<'_>) -> Result<Datagram, LineFault> {
     if words.word() != "from" {
         return Err(LineFault::Bad);

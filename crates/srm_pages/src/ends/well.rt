@@ -74,9 +74,9 @@ impl Well {
         Inked { pass, number }
     }
 
-    /// Whether all producers have said that they are done. It notes this look for [`is_drained`](Well::is_drained). Costs one load.
+    /// Returns whether all producers have said that they are done. It notes this look for [`is_drained`](Well::is_drained). Costs one load.
     ///
-    /// The producers say so by a plain count, on which no contract rests. A producer sends nothing once it is done: nothing follows once
+    /// The producers say so by a plain count. No contract rests on it. A producer sends nothing once it is done: nothing follows once
     /// [`next`](Well::next) finds none after a look that found all of them done.
     pub fn is_done(&mut self) -> bool
         ensures { self.new ≡ record self.old { done_at = looked_at result self.old.nones } }
@@ -86,7 +86,7 @@ impl Well {
         done
     }
 
-    /// Whether the last look found all producers done and [`next`](Well::next) has found none since: no stroke follows then.
+    /// Returns whether the last look found all producers done and [`next`](Well::next) has found none since: no stroke follows then.
     pub fn is_drained(&self) -> bool
         ensures { result ≡ is_drained self.now }
     {

@@ -14,8 +14,8 @@ use std::alloc::{AllocError, Global};
 use std::sync::Arc;
 use std::sync::atomic::AtomicU64;
 
-/// Makes the stroke queue, which holds 64 strokes, and its four producers, the k-th of number k. Nothing is sent or received yet. Fails only
-/// if out of memory.
+/// Makes the stroke queue, which holds 64 strokes, and its four producers, the k-th of number k. Nothing is sent or received yet. Those that nobody uses have to be
+/// [`done`](Pen::done), or the node never leaves. Fails only if out of memory.
 #[tactic(auto, using(crate::proofs::InkSteps::begins))]
 pub fn well(alloc: Global) -> Result<(ends::Well, Vec<Pen>), AllocError>
     ensures well { IfOk result (λ r. r.0 ≡ new_well r.0.well) }

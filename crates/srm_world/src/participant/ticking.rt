@@ -19,7 +19,7 @@ impl<W: Words + Drop> Participant<W> {
         ensures reading { IfOk result (HearsBytes bytes.now self.old) }
         ensures err { OnErr result (ParticipantStays self.old self.new) }
     {
-        // The number of the session, below 2^32, is the one in which the bytes are read.
+        // The bytes are read in the session of this number, which is below 2^32.
         let _session = self.config.session();
         let entry = self.agent.hear_noted(bytes, now)?.entry;
         self.note(&entry);
