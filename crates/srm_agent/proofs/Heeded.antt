@@ -45,7 +45,7 @@ use Rattle.srm_agent.proofs.Entering.{of_member, max_above}
 use Rattle.srm_agent.proofs.Quiet.{bucket_stays, same_due, no_timers}
 use Rattle.srm_agent.proofs.Still.{same_progress}
 
--- all but the last moment, the words, the pages, the store, the distances and the timers is as it was
+-- all but the last moment, the generator, the pages, the store, the distances and the timers is as it was
 pub record Goes {W : Type 0} (a b : AgentContent W) (moment : ℕ) : Type 0 where
   pub last : b.last ≡ moment
   pub config : b.config ≡ a.config

@@ -117,7 +117,7 @@ late a moment next at = go (nat_lt moment next) refl
     go true e = tt
     go false e = (next, at, grind (arith, nat_tests))
 
--- what has come is done
+-- what has expired is done
 pub stirs : {W : Type 0} (a : AgentContent W) (now moment : ℕ) → is_gone a.state ≡ false → moment ≡ max now a.last → IsLate a moment → Stirs now a
 stirs a now moment active counts (next, at, come) = record {
   each = λ c made past h idle. come_stirs c made past a moment h (ap is_gone (sym h.state) ∙ active) next at come (subst (MayDoNothing c made past) (sym counts) idle);

@@ -38,7 +38,7 @@ pub record IsNextAt {W : Type 0} (a : AgentContent W) (next : ℕ) : Type 0 wher
 abbrev pub IsEarly : {W : Type 0} → AgentContent W → ℕ → Type 0
 IsEarly a moment = (next : ℕ) × IsNextAt a next × (moment < next)
 
--- that moment has come
+-- that deadline has expired
 abbrev pub IsLate : {W : Type 0} → AgentContent W → ℕ → Type 0
 IsLate a moment = (next : ℕ) × IsNextAt a next × (next ≤ moment)
 

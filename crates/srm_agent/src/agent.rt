@@ -112,8 +112,8 @@ impl<W: Words + Drop> Model for Agent<W> {
 }
 
 impl<W: Words + Drop> Agent<W> {
-    /// Makes an active agent at a moment, in microseconds, at most 2^48. It shows the first page, which has slot 0 from the start.
-    /// `words` are its random numbers.
+    /// Makes an active agent at a moment, in microseconds, at most 2^48. It shows the first page, which has page slot 0 from the start. `words` are its random
+    /// numbers.
     ///
     /// Fails only if out of memory.
     pub fn new(alloc: Global, config: Config, words: W, now: u64) -> Result<Agent<W>, AllocError>

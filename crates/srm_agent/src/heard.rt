@@ -9,5 +9,6 @@ use srm_timers::Arm;
 pub struct Heard {
     /// The timers that were set, in order of name; none if the bytes were ignored.
     pub arms: Items<Arm>,
+    /// Whether the datagram was accepted, or why it was ignored.
     pub outcome: Outcome,
 }

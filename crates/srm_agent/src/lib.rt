@@ -1,7 +1,10 @@
 //! One member of a session: a state machine that runs the protocol.
 //!
 //! An [`Agent`] has no clock, socket or thread. Its caller passes in strokes, datagrams and moments, and sends or delivers what the calls
-//! return:
+//! return.
+//!
+//! [`Agent::hear`] returns a [`Heard`], [`Agent::tick`] a [`Ticked`] with an [`Out`] for each datagram. The calls that end in `_noted` return a [`Noted`] with the
+//! [`Entry`].
 //!
 //! ```
 //! let config = Config::with(me, members, session, Settings::default())?;
@@ -14,7 +17,7 @@
 //! while let Some(message) = agent.give(slot)? { /* pass it to the page's worker */ }
 //! ```
 //!
-//! [`Agent`] says in which order to make the calls. `crates/srm_example` is a whole program.
+//! The docs of [`Agent`] say in which order to call. `crates/srm_example` is a whole program.
 //!
 //! **Errors.** A call returns the first [`AgentFault`] that holds; its docs list the faults in order. After an error nothing has changed,
 //! the last moment too. What others send is never an error: the agent accepts it, or ignores it with a [`Cause`]. The caller shows that

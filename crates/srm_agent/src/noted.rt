@@ -8,6 +8,8 @@ use srm_entries::{AgentFault, Entry};
 /// [`AgentFault::Memory`].
 #[derive(Debug, Drop)]
 pub struct Noted<A> {
+    /// What the call returned, or the fault that it was refused with.
     pub answer: Result<A, AgentFault>,
+    /// The entry of the call.
     pub entry: Entry,
 }

@@ -1,7 +1,7 @@
 //! A recorder at worked calls, and what scripts in `tests/world` can't show: what is read of one, lists of events in one call, inputs that are
 //! long, and streams that fail.
 //!
-//! The tests stand in a crate of their own: the world and the reading of scripts are proved once, and not a second time with them.
+//! The tests have their own crate: the world and the reading of scripts are proved once, and not a second time with them.
 #![tactic(auto)]
 
 #[cfg(test)]
@@ -22,6 +22,8 @@ mod printer;
 mod reading;
 #[cfg(test)]
 mod recording;
+#[cfg(test)]
+mod room;
 #[cfg(test)]
 mod running;
 #[cfg(test)]

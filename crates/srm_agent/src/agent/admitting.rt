@@ -11,8 +11,8 @@ use srm_names::LONGEST_BODY;
 use srm_timers::Words;
 
 impl<W: Words + Drop> Agent<W> {
-    /// Whether the rate would let a drawop with a body of so many bytes go at once if it were drawn at `now`, in microseconds: no request
-    /// or repair for the page shown and no new data wait, or the tokens cover all of these and its datagram.
+    /// Returns whether the rate would let a drawop with a body of so many bytes go at once if it were drawn at `now`, in microseconds: no request or repair for the
+    /// page shown and no new data wait, or the tokens cover all of these and its datagram.
     ///
     /// A longer body counts as one of 1,024 bytes. Whether the draw would succeed it doesn't say. Takes no memory and changes nothing,
     /// the last moment too.
@@ -25,8 +25,8 @@ impl<W: Words + Drop> Agent<W> {
             .admits(Class::New, draw_length(body_length), moment)
     }
 
-    /// Returns the moment, in microseconds, from which on [`admits_draw`](Agent::admits_draw) returns true for a body of so many bytes,
-    /// if no other call comes before. It isn't before the last moment that counted, and may be past 2^48.
+    /// Returns when [`admits_draw`](Agent::admits_draw) begins to return true for a body of so many bytes, in microseconds, if no other call comes before. It isn't
+    /// before the last moment that counted, and may be past 2^48.
     ///
     /// `None` if the datagram and what waits before it are more than the bucket's depth: then something has to go first, and
     /// [`next_due`](Agent::next_due) tells when. Takes no memory and changes nothing.

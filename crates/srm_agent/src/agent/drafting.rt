@@ -28,7 +28,9 @@ use std::alloc::{AllocError, Global};
 /// A drawop that is about to be drawn: one to hold, and one to send.
 #[derive(Debug, Drop)]
 pub(super) struct Draft {
+    /// The drawop to hold.
     pub held: Drawop,
+    /// The drawop to send.
     pub going: Item<Outgoing>,
 }
 

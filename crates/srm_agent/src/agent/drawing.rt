@@ -34,9 +34,8 @@ use srm_timers::Words;
 use std::alloc::AllocError;
 
 impl<W: Words + Drop> Agent<W> {
-    /// Draws on a page, and returns the name of the new drawop with the entry: this member's next one there, with this body and the
-    /// moment as its stamp. A page without a slot takes a free one. A tick sends the drawop once the rate lets it go. Moments are
-    /// microseconds, at most 2^48.
+    /// Draws on a page, and returns the name of the new drawop with the entry: this member's next one there, with this body and the moment as its stamp. A page
+    /// without a page slot takes a free one. A tick sends the drawop once the rate lets it go. Moments are microseconds, at most 2^48.
     ///
     /// The answer is the first of these faults that holds: [`AgentFault::Gone`]; [`AgentFault::Leaving`]; [`AgentFault::BodyLong`] if the
     /// body has more than 1,024 bytes; [`AgentFault::PageLimit`] if the page has no slot and none is free; [`AgentFault::StreamFull`] if

@@ -18,6 +18,7 @@ use std::collections::VecDeque;
 /// What is due at a moment, made before anything changes.
 #[derive(Drop)]
 pub(super) struct Due {
+    /// The names whose timers have expired.
     pub handed_out: HandedOut,
     /// The requests and the repairs for them.
     pub due_items: VecDeque<DueItem>,
@@ -51,6 +52,7 @@ impl HandedOut {
 /// A session message or a farewell.
 #[derive(Drop)]
 pub(super) struct DueSessionMessage {
+    /// The message, spelled.
     pub outgoing: Outgoing,
     /// When the next one is due after it, in microseconds.
     pub next: u64,

@@ -84,8 +84,7 @@ impl<W: Words + Drop> Agent<W> {
         }
     }
 
-    /// Hears bytes that could not be decoded, at a moment that isn't below the last one. Fails if that was for memory: then they aren't
-    /// noise.
+    /// Hears bytes that could not be decoded, at a moment that isn't below the last one. Fails if memory ran out while they were decoded: then they aren't noise.
     fn hear_noise(&mut self, fault: DecodeFault, moment: u64) -> Result<Heard, AllocError>
         requires here { is_gone self.old.state ≡ false }
         requires later { self.old.last ≤ moment }

@@ -15,8 +15,8 @@ impl<W: Words + Drop> Agent<W> {
     /// Begins to leave, and returns the entry. From now on draws fail, and the first tick that leaves no new data waiting sends the
     /// farewell. Moments are microseconds, at most 2^48.
     ///
-    /// The answer is the first of these faults that holds: [`AgentFault::Gone`], [`AgentFault::Leaving`]. Such a call has an entry, and
-    /// changes nothing. `AllocError` never comes today: the call takes no memory.
+    /// The answer is the first of these faults that holds: [`AgentFault::Gone`], [`AgentFault::Leaving`]. Such a call has an entry, and changes nothing. The call
+    /// takes no memory, so `AllocError` is never returned.
     pub fn leave_noted(&mut self, now: u64) -> Result<Noted<()>, AllocError>
         requires { now ≤ LATEST_MOMENT }
         ensures ok { IfOk result (λ noted. Enters W.next_word (Some now) Input.AskedLeave self.old self.new noted.entry) }
@@ -29,8 +29,7 @@ impl<W: Words + Drop> Agent<W> {
         Ok(self.noted(moment, Input::AskedLeave, answer))
     }
 
-    /// Begins to leave: [`leave_noted`](Agent::leave_noted) without the entry. Its faults are the same: it never fails for memory, and
-    /// takes none.
+    /// Begins to leave: [`leave_noted`](Agent::leave_noted) without the entry. Its faults are the same. It takes no memory.
     pub fn leave(&mut self, now: u64) -> Result<(), AgentFault>
         requires { now ≤ LATEST_MOMENT }
         ensures { HasEntry W.next_word (Some now) Input.AskedLeave (λ _ _. Unit {0}) self.old self.new result }

@@ -12,8 +12,7 @@ use srm_names::{Member, PAGES, Page};
 use srm_timers::Words;
 
 impl<W: Words + Drop> Agent<W> {
-    /// Returns the name of this member's next page: its number is one more than the greatest of this member's pages that have slots, and
-    /// 0 if none has.
+    /// Returns the name of this member's next page: its number is one more than the greatest of this member's pages that have page slots, and 0 if none has.
     ///
     /// `None` if no slot is free, or the number would pass 65,535. Takes no memory and changes nothing: a page gets its slot when it is
     /// drawn on or shown.

@@ -16,8 +16,8 @@ use srm_deadlines::lesser;
 use srm_timers::Words;
 
 impl<W: Words + Drop> Agent<W> {
-    /// Returns the first moment, in microseconds, at which a tick requests, repairs or sends something: a timer expires, the rate lets an
-    /// item go that waits, or a session message is due. The farewell of a leaving member that has sent all that it drew is due at once.
+    /// Returns when a tick next requests, repairs or sends something, in microseconds: a timer expires, the rate lets an item go that waits, or a session message is
+    /// due. The farewell of a leaving member that has sent all that it drew is due at once.
     ///
     /// The moment isn't before the last one that counted. It may be past 2^48, the greatest that calls take: then no tick reaches it.
     /// `None` if this member is gone. Takes no memory and changes nothing.

@@ -15,7 +15,9 @@ use std::alloc::{AllocError, Global};
 /// What hearing returns, and a copy of the timers that it set for the entry, if that is noted.
 #[derive(Drop)]
 pub(super) struct Hearing {
+    /// What the call returns.
     pub heard: Heard,
+    /// The copy of its timers for the entry.
     pub noted: Items<Arm>,
 }
 

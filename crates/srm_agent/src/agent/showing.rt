@@ -13,10 +13,10 @@ use srm_timers::Words;
 use std::alloc::AllocError;
 
 impl<W: Words + Drop> Agent<W> {
-    /// Shows a page, and returns the entry. A page without a slot takes a free one. Moments are microseconds, at most 2^48.
+    /// Shows a page, and returns the entry. A page without a page slot takes a free one. Moments are microseconds, at most 2^48.
     ///
-    /// The answer is the first of these faults that holds: [`AgentFault::Gone`]; [`AgentFault::PageLimit`] if the page has no slot and
-    /// none is free. Such a call has an entry, and changes nothing. `AllocError` never comes today: the call takes no memory.
+    /// The answer is the first of these faults that holds: [`AgentFault::Gone`]; [`AgentFault::PageLimit`] if the page has no slot and none is free. Such a call has
+    /// an entry, and changes nothing. The call takes no memory, so `AllocError` is never returned.
     pub fn show_noted(&mut self, page: Page, now: u64) -> Result<Noted<()>, AllocError>
         requires { now ≤ LATEST_MOMENT }
         ensures ok { IfOk result (λ noted. Enters W.next_word (Some now) (Input.Showed page) self.old self.new noted.entry) }
@@ -29,8 +29,8 @@ impl<W: Words + Drop> Agent<W> {
         Ok(self.noted(moment, Input::Showed(page), answer))
     }
 
-    /// Shows a page: [`show_noted`](Agent::show_noted) without the entry. Its faults are the same. [`AgentFault::Memory`], which the
-    /// contract allows, never comes today.
+    /// Shows a page: [`show_noted`](Agent::show_noted) without the entry. Its faults are the same. [`AgentFault::Memory`], which the contract allows, is never
+    /// returned.
     pub fn show(&mut self, page: Page, now: u64) -> Result<(), AgentFault>
         requires { now ≤ LATEST_MOMENT }
         ensures { Does W.next_word (Some now) (Input.Showed page) (λ _ _. Unit {0}) self.old self.new result }

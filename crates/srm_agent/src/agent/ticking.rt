@@ -1,4 +1,4 @@
-//! Ticks: what a member does when a moment has come.
+//! Ticks: what a member does at a moment.
 
 ghost use Rattle.std.specs.Prelude.{◌≡◌, ◌≤◌, Some, Ok, IfOk, OnErr, true, false, max};
 ghost use Rattle.srm_names.specs.declared.limits.TheConstants.{LATEST_MOMENT};
@@ -173,7 +173,7 @@ fn note_idle(alloc: Global, me: Member, moment: u64, ticked: Ticked) -> Noted<Ti
     note(me, moment, handed_out, acted)
 }
 
-/// The answer and the entry of a tick, with a copy of the names that it requested and repaired. Takes no memory.
+/// The answer and the entry of a tick, with a copy of the names that it requested and repaired. Can't fail.
 fn note(me: Member, moment: u64, handed_out: HandedOut, acted: Acted) -> Noted<Ticked>
     requires asks { handed_out.asks ≡ acted.ticked.asks }
     requires fixes { handed_out.fixes ≡ acted.ticked.fixes }
@@ -196,10 +196,19 @@ fn note(me: Member, moment: u64, handed_out: HandedOut, acted: Acted) -> Noted<T
                 arms,
                 asks: handed_out.asks,
                 fixes: handed_out.fixes,
-                outs,
+                outs: fitted(outs),
                 message: None,
                 state,
             },
         },
     }
+}
+
+/// The same datagrams without room for more, since an entry may be stored for long. Where no smaller block can be had, they keep theirs.
+fn fitted(datagrams: Items<Datagram>) -> Items<Datagram>
+    ensures { result ≡ datagrams }
+{
+    let mut datagrams = datagrams.into_vec();
+    datagrams.shrink_to_fit();
+    Items::new(datagrams)
 }

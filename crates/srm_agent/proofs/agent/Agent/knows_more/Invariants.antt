@@ -9,7 +9,7 @@ use Rattle.srm_names.specs.Names.{stream_on}
 use Rattle.srm_agent.specs.Fits.{AgentFits}
 use Rattle.srm_agent.proofs.agent.Agent.knows_more.Given as goal
 
--- what is left of the pages has one of which more is known where all of them have
+-- if more is known of one of all pages, it is known of one of those that are left
 abbrev pub invariant-loop-page : goal.invariant-loop-page
 invariant-loop-page g l = record {
   left : (c : Config) (made : ℕ) (past : List Entry) → AgentFits c made past l.fn.self
