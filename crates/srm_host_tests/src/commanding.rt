@@ -41,7 +41,7 @@ fn assert_answered<R: Wait + Abort>(rt: &R, control: &mut PageControl, place: u1
     assert_eq!(rt; control.wait_answer(rt), Some(wanted));
 }
 
-/// Gives all commands and takes all answers. Then the pens are done, so that the node leaves.
+/// Gives all commands and takes all answers. Then the producers are done, so that the node leaves.
 fn command_all<R: Wait + Abort>(rt: &R, control: PageControl, pens: Vec<Pen>) {
     let mut control = control;
     let mut pens = pens;
@@ -71,7 +71,7 @@ fn host_node<R: Threads + Wait + Abort + Copy + Send + Drop + 'static>(
     host_station(rt, alloc, station, sinks, 1_000_000)
 }
 
-/// Hosts the only member of a roster in one thread, to which another one gives all commands.
+/// Hosts the only member of a roster in one thread. Another one gives all commands.
 fn host_commanded<R: Threads + Wait + Abort + Copy + Send + Drop + 'static>(
     rt: R,
     alloc: Global,

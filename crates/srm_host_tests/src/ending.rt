@@ -1,4 +1,4 @@
-//! Pens that end in their threads while the node turns.
+//! Producers that end in their threads while the node turns.
 
 ghost use Rattle.std.specs.Prelude.{◌≡◌};
 
@@ -15,13 +15,13 @@ use std::sync::{Arc, Wait};
 use std::thread;
 use std::thread::{JoinHandle, Threads};
 
-/// How often a node turns while its last pen ends.
+/// How often a node turns while its last producer ends.
 const ROUNDS: u32 = 1_000;
 
-/// Turns enough: one that comes to nothing takes microseconds, and a pen's thread need not get a processor soon.
+/// Turns enough: one that comes to nothing takes microseconds, and a producer's thread need not get a processor soon.
 const MANY: u64 = 100_000_000;
 
-/// Sends a stroke without a body on the first page, and is done. Whether the well took it.
+/// Sends a stroke without a body on the first page, and is done. Whether the stroke queue took it.
 fn end_pen<R: Wait>(rt: &R, mut pen: Pen) -> bool {
     let stroke = Stroke {
         pen: pen.number(),
@@ -46,7 +46,7 @@ fn end_later<R: Wait>(rt: &R, pen: Pen, turns: &AtomicU64, later: u32) -> bool {
     end_pen(rt, pen)
 }
 
-/// Starts the thread of a pen that ends later.
+/// Starts the thread of a producer that ends later.
 fn start<R: Threads + Wait + Abort + Copy + Send + Drop + 'static>(
     rt: R,
     pen: Pen,
@@ -60,7 +60,7 @@ fn start<R: Threads + Wait + Abort + Copy + Send + Drop + 'static>(
     }
 }
 
-/// The last pen. All others are done.
+/// The last producer. All others are done.
 fn last_pen(rt: &impl Abort, pens: &mut Vec<Pen>) -> Pen {
     for _ in 1..pens.len() {
         if let Some(pen) = pens.pop() {
@@ -78,7 +78,7 @@ fn next_of<R: Wait>(rt: &R, tap: &mut Tap) -> Seen {
     }
 }
 
-/// What the only member of a roster gives in slot 0, which is to leave, and whose last pen ends with a stroke while it turns.
+/// What the only member of a roster gives in slot 0, which is to leave, and whose last producer ends with a stroke while it turns.
 fn given<R: Threads + Wait + Abort + Copy + Send + Drop + 'static>(
     rt: R,
     alloc: Global,
@@ -103,7 +103,7 @@ fn given<R: Threads + Wait + Abort + Copy + Send + Drop + 'static>(
     ]
 }
 
-// A node that looked at its pens after the well had nothing would leave with a stroke in the well, some two to eight times in 1,000.
+// A node that looked at its producers after the stroke queue had nothing would leave with a stroke still queued, some two to eight times in 1,000.
 #[test]
 fn no_stroke_of_a_pen_that_ends_is_lost(rt: HostRuntime) {
     let wanted = [Seen::Open(0, 0), Seen::Draw(0, 1, 0, 0), Seen::Close];

@@ -146,7 +146,7 @@ fn workers_end_after_a_fault(rt: HostRuntime) {
     assert_hosted(&rt, hosted, Err(NodeFault::Turns), 0, &wanted);
 }
 
-/// A member's first pen sends 50 strokes, and it turns once.
+/// A member's first producer sends 50 strokes, and it turns once.
 fn draw_50<R: Wait + Abort + Drop>(
     rt: &R,
     alloc: Global,

@@ -59,7 +59,7 @@ impl<R: Clock + Drop> PageSink for Held<R> {
     }
 }
 
-/// A sink for each slot, of which the first may stop.
+/// A sink for each slot. The first may stop.
 pub(crate) fn plain_sinks(rt: &impl Abort, alloc: Global, stops: bool) -> Vec<Plain>
     ensures { vec_len result ≡ PAGES }
 {
@@ -73,7 +73,7 @@ fn make_held<R: Clock + Abort + Drop + Copy>(rt: R, drawn: &Arc<AtomicU64, Globa
     }
 }
 
-/// A sink for each slot, of which the first is held.
+/// A sink for each slot. The first is held.
 pub(crate) fn held_sinks<R: Clock + Abort + Drop + Copy>(rt: R, alloc: Global) -> Vec<Held<R>>
     ensures { vec_len result ≡ PAGES }
 {
@@ -111,7 +111,7 @@ fn make_own(rt: &impl Abort, slot: u8, seen: &Arc<AtomicU64, Global>) -> Own {
     }
 }
 
-/// For each slot its own sink, all of which count here.
+/// A sink for each slot. All of them count here.
 pub(crate) fn own_sinks(rt: &impl Abort, alloc: Global, seen: &Arc<AtomicU64, Global>) -> Vec<Own>
     ensures { vec_len result ≡ PAGES }
 {

@@ -1,4 +1,4 @@
-//! Workers that are started over lanes in which a close waits.
+//! Workers that are started over lanes with a close that waits.
 
 ghost use Rattle.std.specs.Prelude.{◌≡◌, ◌<◌, true, [], ◌∷◌, ◌++◌, vec_len, IfOk};
 ghost use Rattle.srm_names.specs.declared.limits.TheConstants.{PAGES};
@@ -31,7 +31,7 @@ fn new_lane(alloc: Global, slot: usize) -> Result<(Feed, Tap), AllocError>
     Ok((feeds.remove(slot), taps.remove(slot)))
 }
 
-/// Puts a message for which there is room. Whether it went in.
+/// Puts a message that there is room for. Whether it went in.
 fn put_one<R: Wait>(rt: &R, feed: &mut Feed, message: PageMsg) -> bool
     requires { is_page_feed (feed.old.put ++ message ∷ []) ≡ true }
 {
@@ -49,7 +49,7 @@ fn put_close<R: Wait>(rt: &R, feed: &mut Feed) -> bool
     put_one(rt, feed, PageMsg::Close)
 }
 
-/// The tap of the lane of a slot in which a close waits.
+/// The tap of a slot's lane, with a close that waits.
 fn closed_tap<R: Wait + Abort>(rt: &R, alloc: Global, slot: usize) -> Tap
     requires { slot < PAGES }
 {
@@ -58,7 +58,7 @@ fn closed_tap<R: Wait + Abort>(rt: &R, alloc: Global, slot: usize) -> Tap
     tap
 }
 
-/// A tap for each slot, of a lane in which a close waits.
+/// A tap for each slot, of a lane with a close that waits.
 fn closed_taps<R: Wait + Abort>(rt: &R, alloc: Global) -> Vec<Tap>
     ensures { vec_len result ≡ PAGES }
 {
@@ -72,7 +72,7 @@ fn closed_taps<R: Wait + Abort>(rt: &R, alloc: Global) -> Vec<Tap>
     taps
 }
 
-/// Hosts a node that isn't turned, with workers over lanes of their own in which a close waits. What these sinks see is counted here.
+/// Hosts a node that isn't turned, with workers over lanes that aren't the node's, each with a close that waits. What these sinks see is counted here.
 fn host_closed<R: Threads + Wait + Abort + Copy + Send + Drop + 'static>(
     rt: &R,
     alloc: Global,

@@ -1,4 +1,4 @@
-//! Nodes with their taps and pens, over networks in memory.
+//! Nodes with their taps and producers, over networks in memory.
 
 ghost use Rattle.std.specs.Prelude.{◌≡◌, vec_len};
 ghost use Rattle.srm_names.specs.declared.limits.TheConstants.{PAGES};
@@ -17,7 +17,7 @@ use std::sync::Wait;
 /// A node over a network in memory whose waits come from a list.
 pub(crate) type SteppedNode<R> = Node<Listed, MemWire<R>, StepClock>;
 
-/// It with its taps and pens.
+/// It with its taps and producers.
 pub(crate) type SteppedStation<R, P = Vec<Entry>> = Station<Listed, MemWire<R>, StepClock, P>;
 
 fn settings(rt: &impl Abort, me: u8, members: u8) -> Config {
@@ -89,12 +89,12 @@ pub(crate) fn forgetful_alone<R: Wait + Abort + Copy + Drop>(
     station.expect(&rt, "memory")
 }
 
-/// The first pen sends each of these bytes as a stroke on the first page.
+/// The first producer sends each of these bytes as a stroke on the first page.
 pub(crate) fn ink_text<R: Wait + Abort>(rt: &R, alloc: Global, pens: &mut Vec<Pen>, text: &[u8]) {
     assert!(rt; srm_rig_nodes::ink_text(rt, alloc, pens, text).expect(rt, "memory"));
 }
 
-/// The same, and then all pens are done.
+/// The same, and then all producers are done.
 pub(crate) fn ink_all<R: Wait + Abort>(rt: &R, alloc: Global, pens: &mut Vec<Pen>, text: &[u8]) {
     ink_text(rt, alloc, pens, text);
     end_all(pens);

@@ -50,7 +50,7 @@ fn assert_served(rt: &impl Abort, hosted: &Hosted) {
     }
 }
 
-/// Hosts two members, each in a thread of its own.
+/// Hosts two members, each in its own thread.
 fn host_two<R: Threads + Wait + Abort + Copy + Send + Drop + 'static>(
     rt: R,
     alloc: Global,
@@ -64,7 +64,7 @@ fn host_two<R: Threads + Wait + Abort + Copy + Send + Drop + 'static>(
     )
 }
 
-/// Hosts three members, each in a thread of its own.
+/// Hosts three members, each in its own thread.
 fn host_three<R: Threads + Wait + Abort + Copy + Send + Drop + 'static>(
     rt: R,
     alloc: Global,

@@ -1,10 +1,11 @@
 -- Workers that are joined one after another, and the lanes of a node that ran.
 use Rattle.std.proofs.Common.{◌≡◌, ℕ, zero, suc, ◌+◌, ◌≤◌, Bool, true, false, List, [], ◌∷◌, ◌++◌, length, map, refl, ap, sym, ◌∙◌, subst, append_assoc, arith, add-one}
-use Rattle.std.specs.Prelude.{Option, Some, slice_get, Result, Ok, Err, IfOk, MatchResult, is_ok}
+use Rattle.std.specs.Prelude.{Option, Some, None, slice_get, Result, Ok, Err, IfOk, MatchBool, MatchResult, is_ok}
 use Rattle.std.specs.Bool.{OnTrue, OnFalse}
 use Rattle.std.specs.List.{zip}
 use Rattle.srm_node.specs.declared.fault.NodeFault.{NodeFault}
 use Rattle.srm_node.specs.declared.hosting.Hosted.{Hosted}
+use Rattle.srm_node.specs.declared.hosting.NodeEnds.{NodeEnds}
 use Rattle.std.proofs.lemmas.List.{append-nil, length-append}
 use Rattle.std.proofs.lemmas.Option.{same_Some, slice_get_within}
 use Rattle.srm_names.proofs.Lists.{at_place}
@@ -16,7 +17,13 @@ use Rattle.srm_node.specs.Parts.{SameFeed, SameFeeds}
 use Rattle.srm_node.specs.Nodes.{NodeView, NodeKeepsLists}
 use Rattle.srm_node.specs.Turns.{TurnToLeaving, Turned, RunsOf, RunsToEnd}
 use Rattle.srm_node.specs.Calls.{Calls}
-use Rattle.srm_node.specs.Hosting.{Kinds, start_of, StartsSome, StopsBy, WorkedAs, WorkedEach, Joins, Hosts, HostsWith, HostFails, HostFailsWith, SameWell, AreEndsOfLanes}
+use Rattle.srm_names.specs.declared.page.Page.{Page}
+use Rattle.srm_control.specs.declared.command.PageCommand.{PageCommand}
+use Rattle.srm_control.specs.declared.command.PageRefusal.{PageRefusal}
+use Rattle.srm_control.specs.Ends.{CommandsView, looked_once, with_found, FindsBehind, Finds, AnswersThat, Answers}
+use Rattle.srm_world.specs.Traces.{Journal}
+use Rattle.srm_node.specs.Showing.{Obeys, ObeysFound, ShowsAsked}
+use Rattle.srm_node.specs.Hosting.{Kinds, start_of, StartsSome, StopsBy, WorkedAs, WorkedEach, Joins, Hosts, HostsWith, HostFails, HostFailsWith, SameWell, SameLines, AreEndsOfLanes}
 use Rattle.srm_node.proofs.Gives.{same_on}
 
 each-snoc : {L S : Type 0} (kinds : Kinds L S) (ts : List (TapView × S)) (ws : List (Worked L)) (t : TapView × S) (w : Worked L) → WorkedEach kinds ts ws → WorkedAs kinds t w → WorkedEach kinds (ts ++ t ∷ []) (ws ++ w ∷ [])
@@ -79,7 +86,7 @@ lanes_of_turns {X} {C} calls (suc n) a b (before, paused, runs, goes_on, waits, 
 lanes_of_run : {X C : Type 0} (calls : Calls X C) (limit : ℕ) (a b : NodeView X C) → RunsToEnd calls limit a b → SameLanes a b
 lanes_of_run calls limit a b h = lanes_of_turns calls h.count a b h.runs.turns
 
--- THE WELL OF A NODE THAT RAN
+-- THE STROKE QUEUE OF A NODE THAT RAN
 
 well_with : (w v : WellView) (received : List Stroke) (nones : ℕ) (done_at : Option ℕ) → v ≡ record w { received = received; nones = nones; done_at = done_at } → SameWell w v
 well_with w v received nones done_at is = subst (λ (x : WellView). SameWell w x) (sym is) refl
@@ -110,12 +117,82 @@ well_of_turns {X} {C} calls (suc n) a b (before, paused, runs, goes_on, waits, t
     well_on a.well before.well b.well (well_of_turns calls n a before runs)
     (well_on before.well paused.well b.well (well_kept before paused (ap (λ (n : NodeView X C). n.well) waits.same)) (well_of_turn calls paused b turned))
 
+-- THE CONTROL OF A NODE THAT RAN
+
+lines_kept : (a b : Option CommandsView) → b ≡ a → SameLines a b
+lines_kept None b is = is
+lines_kept (Some c) b is = (c, is, refl, refl)
+
+lines_on : (a b c : Option CommandsView) → SameLines a b → SameLines b c → SameLines a c
+lines_on None b c h k = subst (λ o. SameLines o c) h k
+lines_on (Some x) b c (y, is, out, back) k =
+    let (z, z_is, z_out, z_back) = subst (λ o. SameLines o c) is k in
+    (z, z_is, z_out ∙ out, z_back ∙ back)
+
+-- the lines of one end are those of another
+abbrev OnLines : CommandsView → CommandsView → Type 0
+OnLines a b = (b.out ≡ a.out) × (b.back ≡ a.back)
+
+on_lines : (a b c : CommandsView) → OnLines a b → OnLines b c → OnLines a c
+on_lines a b c (out, back) (out2, back2) = (out2 ∙ out, back2 ∙ back)
+
+lines_is : (a b : CommandsView) → b ≡ a → OnLines a b
+lines_is a b is = (ap (λ (d : CommandsView). d.out) is, ap (λ (d : CommandsView). d.back) is)
+
+lines_found : (found : Option PageCommand) (from seen : CommandsView) → Finds found from seen → OnLines from seen
+lines_found found from seen h = go from.hand h
+  where
+    next : (f : Option PageCommand) → seen ≡ with_found f (looked_once from) → OnLines from seen
+    next None is = (ap (λ (d : CommandsView). d.out) is, ap (λ (d : CommandsView). d.back) is)
+    next (Some command) is = (ap (λ (d : CommandsView). d.out) is, ap (λ (d : CommandsView). d.back) is)
+
+    go : (hand : Option PageCommand) → FindsBehind hand found from seen → OnLines from seen
+    go (Some command) f = (ap (λ (d : CommandsView). d.out) f.1, ap (λ (d : CommandsView). d.back) f.1)
+    go None f = next found f
+
+lines_answered : (outcome : Result Page PageRefusal) (seen to : CommandsView) → Answers outcome seen to → OnLines seen to
+lines_answered outcome seen to h = go seen.hand h
+  where
+    told : (b : Bool) (x y : CommandsView) → (to ≡ x → OnLines seen to) → (to ≡ y → OnLines seen to) → MatchBool b (to ≡ x) (to ≡ y) → OnLines seen to
+    told true x y f g m = f m
+    told false x y f g m = g m
+
+    go : (hand : Option PageCommand) → AnswersThat hand outcome seen to → OnLines seen to
+    go None m = lines_is seen to m
+    go (Some command) m = told to.gone _ _ (λ is. (ap (λ (d : CommandsView). d.out) is, ap (λ (d : CommandsView). d.back) is)) (λ is. (ap (λ (d : CommandsView). d.out) is, ap (λ (d : CommandsView). d.back) is)) m
+
+lines_obeyed : (now : ℕ) (found : Option PageCommand) (old new : Journal) (seen to : CommandsView) → ObeysFound now found old new seen to → OnLines seen to
+lines_obeyed now None old new seen to h = lines_is seen to h.1
+lines_obeyed now (Some command) old new seen to h = lines_answered h.outcome seen to h.answers
+
+lines_shown : (now : ℕ) (old new : Journal) (a b : Option CommandsView) → ShowsAsked now old new a b → SameLines a b
+lines_shown now old new None b h = h.1
+lines_shown now old new (Some from) b (next, is, o) =
+    let lines = on_lines from o.seen next (lines_found o.found from o.seen o.finds) (lines_obeyed now o.found old new o.seen next o.obeys) in
+    (next, is, lines.0, lines.1)
+
+control_left : {X C : Type 0} (calls : Calls X C) (now : ℕ) (unheard : Bool) (a b : NodeView X C) → TurnToLeaving calls now unheard a b → b.control ≡ a.control
+control_left {X} {C} calls now unheard a b t = ap (λ (n : NodeView X C). n.control) t.leaves.same ∙ ap (λ (n : NodeView X C). n.control) t.draws.same ∙ ap (λ (n : NodeView X C). n.control) t.looks.same ∙ ap (λ (n : NodeView X C). n.control) t.hears.same
+    ∙ ap (λ (n : NodeView X C). n.control) t.reads.same
+
+lines_of_turn : {X C : Type 0} (calls : Calls X C) (a b : NodeView X C) → Turned calls false false a b → SameLines a.control b.control
+lines_of_turn {X} {C} calls a b t = let p = t.to_tick in let s = p.to_showing in
+    let ticked : b.control ≡ p.shown.control = ap (λ (n : NodeView X C). n.control) t.gives.same ∙ ap (λ (n : NodeView X C). n.control) p.ticks.same in
+    lines_on a.control s.left.control b.control (lines_kept a.control s.left.control (control_left calls p.now false a s.left s.to_leaving))
+    (lines_on s.left.control p.shown.control b.control (lines_shown p.now s.left.journal p.shown.journal s.left.control p.shown.control s.shows.shows) (lines_kept p.shown.control b.control ticked))
+
+lines_of_turns : {X C : Type 0} (calls : Calls X C) (count : ℕ) (a b : NodeView X C) → RunsOf calls count a b → SameLines a.control b.control
+lines_of_turns {X} {C} calls zero a b h = lines_kept a.control b.control (ap (λ (n : NodeView X C). n.control) h)
+lines_of_turns {X} {C} calls (suc n) a b (before, paused, runs, goes_on, waits, turned) =
+    lines_on a.control before.control b.control (lines_of_turns calls n a before runs)
+    (lines_on before.control paused.control b.control (lines_kept before.control paused.control (ap (λ (n : NodeView X C). n.control) waits.same)) (lines_of_turn calls paused b turned))
+
 -- what is returned of a node that ran, and of its workers
-pub hosted : {P L S X C : Type 0} (calls : Calls X C) (kinds : Kinds L S) (r : Result (Unit {0}) NodeFault) (node last : NodeView X C) (starts : List (TapView × S)) (turns : ℕ) (all : Bool) (well : WellView) (h : Hosted P L) (feeds : List FeedView) (keeps : Bool)
+pub hosted : {P L S X C : Type 0} (calls : Calls X C) (kinds : Kinds L S) (r : Result (Unit {0}) NodeFault) (node last : NodeView X C) (starts : List (TapView × S)) (turns : ℕ) (all : Bool) (ends : NodeEnds) (h : Hosted P L) (feeds : List FeedView) (keeps : Bool)
     → MatchResult r (λ _. (all ≡ true) × NodeKeepsLists last × RunsToEnd calls turns node last) (λ fault. StopsBy calls all fault turns node last) → NodeKeepsLists last
-    → h.journal ≡ last.journal → feeds ≡ last.feeds → well ≡ last.well → OnTrue keeps (h.feeds.items ≡ feeds) → OnFalse keeps (h.feeds.items ≡ []) → keeps ≡ is_ok r → WorkedEach kinds starts h.worked.items
-    → MatchResult r (λ _. (all ≡ true) × HostsWith calls kinds node starts turns well h) (λ fault. HostFailsWith calls kinds all node starts turns fault well h)
-hosted calls kinds (Ok u) node last starts turns all well h feeds keeps ran lists journal same well_is kept none ok workers = (
+    → h.journal ≡ last.journal → feeds ≡ last.feeds → ends.well ≡ last.well → ends.commands ≡ last.control → OnTrue keeps (h.feeds.items ≡ feeds) → OnFalse keeps (h.feeds.items ≡ []) → keeps ≡ is_ok r → WorkedEach kinds starts h.worked.items
+    → MatchResult r (λ _. (all ≡ true) × HostsWith calls kinds node starts turns ends h) (λ fault. HostFailsWith calls kinds all node starts turns fault ends h)
+hosted calls kinds (Ok u) node last starts turns all ends h feeds keeps ran lists journal same well_is control_is kept none ok workers = (
   ran.0,
   (
     record {
@@ -129,9 +206,10 @@ hosted calls kinds (Ok u) node last starts turns all well h feeds keeps ran list
       workers = workers;
     },
     well_is,
+    control_is,
   ),
 )
-hosted {P} {L} {S} {X} {C} calls kinds (Err e) node last starts turns all well h feeds keeps ran lists journal same well_is kept none ok workers = (
+hosted {P} {L} {S} {X} {C} calls kinds (Err e) node last starts turns all ends h feeds keeps ran lists journal same well_is control_is kept none ok workers = (
   record {
     last = last;
     runs = ran;
@@ -145,6 +223,7 @@ hosted {P} {L} {S} {X} {C} calls kinds (Err e) node last starts turns all well h
     workers = workers;
   },
   well_is,
+  control_is,
 )
   where
     no_more : (b : Bool) (ts : List (TapView × S)) → OnTrue b (ts ≡ ts)
@@ -157,11 +236,11 @@ none_behind xs [] all split whole = refl
 none_behind xs (y ∷ ys) all split whole = absurd (omega (arith, ap length split, ap length whole, length-append xs (y ∷ ys)))
 
 -- what is returned of the taps and sinks that were passed in
-pub host_ends : {P L S X C : Type 0} (calls : Calls X C) (kinds : Kinds L S) (r : Result (Unit {0}) NodeFault) (node : NodeView X C) (starts : List (TapView × S)) (workers : List (Worker L S)) (turns : ℕ) (all : Bool) (well : WellView) (h : Hosted P L) → StartsSome starts workers → OnTrue all (map start_of workers ≡ starts)
-    → MatchResult r (λ _. (all ≡ true) × HostsWith calls kinds node (map start_of workers) turns well h) (λ fault. HostFailsWith calls kinds all node (map start_of workers) turns fault well h)
-    → MatchResult r (λ _. HostsWith calls kinds node starts turns well h) (λ fault. (all : Bool) × HostFailsWith calls kinds all node starts turns fault well h)
-host_ends calls kinds (Ok u) node starts workers turns all well h some whole ran = subst (λ ts. HostsWith calls kinds node ts turns well h) (let w : map start_of workers ≡ starts = subst (λ b. OnTrue b (map start_of workers ≡ starts)) ran.0 whole in w) ran.1
-host_ends calls kinds (Err fault) node starts workers turns all well h some whole (f, well_is) = (
+pub host_ends : {P L S X C : Type 0} (calls : Calls X C) (kinds : Kinds L S) (r : Result (Unit {0}) NodeFault) (node : NodeView X C) (starts : List (TapView × S)) (workers : List (Worker L S)) (turns : ℕ) (all : Bool) (ends : NodeEnds) (h : Hosted P L) → StartsSome starts workers → OnTrue all (map start_of workers ≡ starts)
+    → MatchResult r (λ _. (all ≡ true) × HostsWith calls kinds node (map start_of workers) turns ends h) (λ fault. HostFailsWith calls kinds all node (map start_of workers) turns fault ends h)
+    → MatchResult r (λ _. HostsWith calls kinds node starts turns ends h) (λ fault. (all : Bool) × HostFailsWith calls kinds all node starts turns fault ends h)
+host_ends calls kinds (Ok u) node starts workers turns all ends h some whole ran = subst (λ ts. HostsWith calls kinds node ts turns ends h) (let w : map start_of workers ≡ starts = subst (λ b. OnTrue b (map start_of workers ≡ starts)) ran.0 whole in w) ran.1
+host_ends calls kinds (Err fault) node starts workers turns all ends h some whole (f, well_is, control_is) = (
   all,
   (
     record {
@@ -177,6 +256,7 @@ host_ends calls kinds (Err fault) node starts workers turns all well h some whol
       workers = f.workers;
     },
     well_is,
+    control_is,
   ),
 )
   where
@@ -201,21 +281,27 @@ still_ends calls kinds node taps sinks turns h x ends k f t at_f at_t =
     let (s, at_s, lane) = worked_at kinds taps sinks h.worked.items k t x.workers at_t in
     ap (λ (y : FeedView). y.lane) (x.lanes k g f at_g at_last) ∙ ends k g s at_g at_s ∙ sym lane
 
-pub host_lanes : {P L S X C : Type 0} (calls : Calls X C) (kinds : Kinds L S) (r : Result (Unit {0}) NodeFault) (node : NodeView X C) (taps : List TapView) (sinks : List S) (turns : ℕ) (well : WellView) (h : Hosted P L)
-    → MatchResult r (λ _. HostsWith calls kinds node (zip taps sinks) turns well h) (λ fault. (all : Bool) × HostFailsWith calls kinds all node (zip taps sinks) turns fault well h)
+pub host_lanes : {P L S X C : Type 0} (calls : Calls X C) (kinds : Kinds L S) (r : Result (Unit {0}) NodeFault) (node : NodeView X C) (taps : List TapView) (sinks : List S) (turns : ℕ) (ends : NodeEnds) (h : Hosted P L)
+    → MatchResult r (λ _. HostsWith calls kinds node (zip taps sinks) turns ends h) (λ fault. (all : Bool) × HostFailsWith calls kinds all node (zip taps sinks) turns fault ends h)
     → IfOk r (λ _. AreEndsOfLanes node.feeds taps → AreEndsOfLanes h.feeds.items (map (λ (w : Worked L). w.tap) h.worked.items))
-host_lanes calls kinds (Ok u) node taps sinks turns well h x = still_ends calls kinds node taps sinks turns h x.0
-host_lanes calls kinds (Err e) node taps sinks turns well h x = tt
+host_lanes calls kinds (Ok u) node taps sinks turns ends h x = still_ends calls kinds node taps sinks turns h x.0
+host_lanes calls kinds (Err e) node taps sinks turns ends h x = tt
 
-pub host_well : {P L S X C : Type 0} (calls : Calls X C) (kinds : Kinds L S) (r : Result (Unit {0}) NodeFault) (node : NodeView X C) (starts : List (TapView × S)) (turns : ℕ) (well : WellView) (h : Hosted P L)
-    → MatchResult r (λ _. HostsWith calls kinds node starts turns well h) (λ fault. (all : Bool) × HostFailsWith calls kinds all node starts turns fault well h)
-    → IfOk r (λ _. SameWell node.well well)
-host_well calls kinds (Ok u) node starts turns well h (x, is) = subst (λ (w : WellView). SameWell node.well w) (sym is) (well_of_turns calls x.runs.count node x.last x.runs.runs.turns)
-host_well calls kinds (Err e) node starts turns well h x = tt
+pub host_well : {P L S X C : Type 0} (calls : Calls X C) (kinds : Kinds L S) (r : Result (Unit {0}) NodeFault) (node : NodeView X C) (starts : List (TapView × S)) (turns : ℕ) (ends : NodeEnds) (h : Hosted P L)
+    → MatchResult r (λ _. HostsWith calls kinds node starts turns ends h) (λ fault. (all : Bool) × HostFailsWith calls kinds all node starts turns fault ends h)
+    → IfOk r (λ _. SameWell node.well ends.well)
+host_well calls kinds (Ok u) node starts turns ends h (x, well_is, control_is) = subst (λ (w : WellView). SameWell node.well w) (sym well_is) (well_of_turns calls x.runs.count node x.last x.runs.runs.turns)
+host_well calls kinds (Err e) node starts turns ends h x = tt
 
--- what is known of the node of a host, without its stroke queue
-pub without_well : {P L S X C : Type 0} (calls : Calls X C) (kinds : Kinds L S) (r : Result (Unit {0}) NodeFault) (node : NodeView X C) (starts : List (TapView × S)) (turns : ℕ) (well : WellView) (h : Hosted P L)
-    → MatchResult r (λ _. HostsWith calls kinds node starts turns well h) (λ fault. (all : Bool) × HostFailsWith calls kinds all node starts turns fault well h)
+pub host_control : {P L S X C : Type 0} (calls : Calls X C) (kinds : Kinds L S) (r : Result (Unit {0}) NodeFault) (node : NodeView X C) (starts : List (TapView × S)) (turns : ℕ) (ends : NodeEnds) (h : Hosted P L)
+    → MatchResult r (λ _. HostsWith calls kinds node starts turns ends h) (λ fault. (all : Bool) × HostFailsWith calls kinds all node starts turns fault ends h)
+    → IfOk r (λ _. SameLines node.control ends.commands)
+host_control calls kinds (Ok u) node starts turns ends h (x, well_is, control_is) = subst (SameLines node.control) (sym control_is) (lines_of_turns calls x.runs.count node x.last x.runs.runs.turns)
+host_control calls kinds (Err e) node starts turns ends h x = tt
+
+-- what is known of the node of a host, without its ends
+pub without_ends : {P L S X C : Type 0} (calls : Calls X C) (kinds : Kinds L S) (r : Result (Unit {0}) NodeFault) (node : NodeView X C) (starts : List (TapView × S)) (turns : ℕ) (ends : NodeEnds) (h : Hosted P L)
+    → MatchResult r (λ _. HostsWith calls kinds node starts turns ends h) (λ fault. (all : Bool) × HostFailsWith calls kinds all node starts turns fault ends h)
     → MatchResult r (λ _. Hosts calls kinds node starts turns h) (λ fault. (all : Bool) × HostFails calls kinds all node starts turns fault h)
-without_well calls kinds (Ok u) node starts turns well h x = x.0
-without_well calls kinds (Err e) node starts turns well h (all, (x, is)) = (all, x)
+without_ends calls kinds (Ok u) node starts turns ends h x = x.0
+without_ends calls kinds (Err e) node starts turns ends h (all, (x, well_is, control_is)) = (all, x)

@@ -130,7 +130,7 @@ node_listened R now n k failures told wire config room closed (Err e) h lawful x
 pub node_waited : {X C : Type 0} (n : NodeView X C) (failures : ℕ) (told : Option Told) (wire : X) (clock : C) (config : Config) (room : ℕ) (closed : List Bool) → IsNode n config room closed → IsNode (record n { failures = failures; told = told; wire = wire; clock = clock }) config room closed
 node_waited n failures told wire clock config room closed h = record { lists = h.lists; settings = h.settings; room_is = h.room_is; closed_are = h.closed_are }
 
--- LOOKING AT THE PENS
+-- LOOKING AT THE PRODUCERS
 
 -- what the stroke queue has received stays
 pub node_looked : {X C : Type 0} (n : NodeView X C) (well : WellView) (config : Config) (room : ℕ) (closed : List Bool) → IsNode n config room closed → well.received ≡ n.well.received → IsNode (record n { well = well }) config room closed

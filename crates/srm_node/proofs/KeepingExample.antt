@@ -17,7 +17,7 @@ use Rattle.srm_node.proofs.Keeping.{keeps_new}
 use Rattle.srm_node.proofs.Releasing.{puts_released}
 use Rattle.srm_entries.specs.Sample.{config}
 
--- over a stroke queue of which nothing had been received
+-- over a stroke queue that nothing had been received from
 keeps : (lane : LaneId) (well : WellView) → well.received ≡ [] → NodeKeepsLists (after lane well)
 keeps lane well none = record {
   lawful = lawful;

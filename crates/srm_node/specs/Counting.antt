@@ -33,7 +33,7 @@ came_as_noise e = is_noise e.input
 abbrev pub was_ignored : ℕ → Entry → Bool
 was_ignored number e = ignored_by number e.verdict
 
--- a stroke that the agent refused, by which it was dropped
+-- a stroke that the agent refused, so that it was dropped
 abbrev pub was_dropped : Entry → Bool
 was_dropped e = is_drawn e.input && is_refused e.verdict
 

@@ -1,18 +1,21 @@
 -- Workers that are started and joined, and what a host returns, at worked examples.
-use Rattle.std.specs.Prelude.{◌≡◌, ◌≢◌, ℕ, zero, suc, Bool, true, false, List, [], ◌∷◌, ◌++◌, None, refl, MatchBool}
+use Rattle.std.specs.Prelude.{◌≡◌, ◌≢◌, ℕ, zero, suc, Bool, true, false, List, [], ◌∷◌, ◌++◌, Some, None, refl, MatchBool}
 use Rattle.std.proofs.Common.{ap, sym, ◌∙◌, subst, inl}
 use Rattle.std.proofs.lemmas.Option.{same_Some}
 use Rattle.srm_names.specs.Names.{first_page}
 use Rattle.srm_names.specs.declared.page_msg.PageMsg.{PageMsg}
 use Rattle.srm_names.specs.declared.page_msg.PageMsg.TheVariants.{Open}
 use Rattle.srm_pages.specs.Ends.{FeedView, TapView, WellView, LaneId}
+use Rattle.srm_control.specs.declared.command.PageCommand.{PageCommand}
+use Rattle.srm_control.specs.declared.command.PageAnswer.{PageAnswer}
+use Rattle.srm_control.specs.Ends.{LineId, CommandsView, new_commands}
 use Rattle.srm_node.specs.declared.fault.NodeFault.TheVariants.{Memory, Turns}
 use Rattle.srm_node.specs.declared.hosting.Worker.{Worker}
 use Rattle.srm_node.specs.declared.hosting.Hosted.{Hosted}
 use Rattle.srm_node.specs.declared.working.Worked.{Worked}
 use Rattle.srm_node.specs.declared.working.WorkEnd.TheVariants.{Closed, Broken}
 use Rattle.srm_node.specs.Working.{Took, SeesEach, EndsSo, is_stopped}
-use Rattle.srm_node.specs.Hosting.{Kinds, kinds_of, start_of, starts_of, Starts, StopsBy, Joins, WorkedAs, WorkedEach, AreEndsOfLanes, HostFails, Hosts}
+use Rattle.srm_node.specs.Hosting.{Kinds, kinds_of, start_of, starts_of, Starts, StopsBy, Joins, WorkedAs, WorkedEach, AreEndsOfLanes, SameLines, HostFails, Hosts}
 use Rattle.srm_node.specs.TurnSample.{calls, feed, unpaused, waits_once}
 use Rattle.srm_node.specs.WholeTurnExamples.{before, after, whole}
 
@@ -83,6 +86,16 @@ joined_one entries lane t v w of is list end = record {
   split = ap (λ x. (tap 0 [] lane, 0) ∷ x ∷ []) (sym of);
   each = (worked_so entries w (tap 0 [] lane) (took_its_page lane) (Open first_page) is list end refl (record { is = refl }), tt);
 }
+
+-- CONTROLS
+
+-- a node's end that looked for a command is on the same lines
+looked_on_its_lines : (out : LineId PageCommand) (back : LineId PageAnswer) → SameLines (Some (new_commands out back)) (Some (record (new_commands out back) { looks = 1 }))
+looked_on_its_lines out back = (record (new_commands out back) { looks = 1 }, refl, refl, refl)
+
+-- a node without one doesn't get one
+no_control_comes : (c : CommandsView) → SameLines None (Some c) → ⊥
+no_control_comes c h = cc
 
 -- HOSTS
 

@@ -1,11 +1,13 @@
 -- A node and its page workers in threads.
-use Rattle.std.specs.Prelude.{◌≡◌, ◌⊎◌, ℕ, Bool, true, false, List, [], ◌∷◌, ◌++◌, map, length, slice_get, Some, Err}
+use Rattle.std.specs.Prelude.{◌≡◌, ◌⊎◌, ℕ, Bool, true, false, List, [], ◌∷◌, ◌++◌, map, length, slice_get, Option, Some, None, Err}
 use Rattle.std.specs.Bool.{OnTrue}
 use Rattle.std.specs.List.{zip}
 use Rattle.srm_names.specs.declared.page_msg.PageMsg.{PageMsg}
 use Rattle.srm_pages.specs.Ends.{FeedView, TapView, WellView}
 use Rattle.srm_node.specs.declared.hosting.Worker.{Worker}
+use Rattle.srm_control.specs.Ends.{CommandsView}
 use Rattle.srm_node.specs.declared.hosting.Hosted.{Hosted}
+use Rattle.srm_node.specs.declared.hosting.NodeEnds.{NodeEnds}
 use Rattle.srm_node.specs.declared.working.Worked.{Worked}
 use Rattle.srm_node.specs.Working.{WorkedFrom}
 use Rattle.srm_node.specs.Calls.{Calls}
@@ -93,13 +95,18 @@ pub record Hosts {P L S X C : Type 0} (calls : Calls X C) (kinds : Kinds L S) (n
   pub lanes : SameFeeds node.feeds last.feeds
   pub workers : WorkedEach kinds starts h.worked.items
 
--- Without fault, and this is the stroke queue that the node had at its end; and the same after a fault.
-abbrev pub HostsWith : {P L S X C : Type 0} → Calls X C → Kinds L S → NodeView X C → List (TapView × S) → ℕ → WellView → Hosted P L → Type 0
-HostsWith calls kinds node starts turns well h = (host : Hosts calls kinds node starts turns h) × (well ≡ host.last.well)
+-- Without fault, and these are the stroke queue and the end of a control that the node had at its end; and the same after a fault.
+abbrev pub HostsWith : {P L S X C : Type 0} → Calls X C → Kinds L S → NodeView X C → List (TapView × S) → ℕ → NodeEnds → Hosted P L → Type 0
+HostsWith calls kinds node starts turns ends h = (host : Hosts calls kinds node starts turns h) × (ends.well ≡ host.last.well) × (ends.commands ≡ host.last.control)
 
-abbrev pub HostFailsWith : {P L S X C : Type 0} → Calls X C → Kinds L S → Bool → NodeView X C → List (TapView × S) → ℕ → NodeFault → WellView → Hosted P L → Type 0
-HostFailsWith calls kinds all node starts turns fault well h = (host : HostFails calls kinds all node starts turns fault h) × (well ≡ host.last.well)
+abbrev pub HostFailsWith : {P L S X C : Type 0} → Calls X C → Kinds L S → Bool → NodeView X C → List (TapView × S) → ℕ → NodeFault → NodeEnds → Hosted P L → Type 0
+HostFailsWith calls kinds all node starts turns fault ends h = (host : HostFails calls kinds all node starts turns fault h) × (ends.well ≡ host.last.well) × (ends.commands ≡ host.last.control)
 
 -- what a stroke queue received, how often it found none and what it was told of its producers may change, and no more
 abbrev pub SameWell : WellView → WellView → Type 0
 SameWell w v = v ≡ record w { received = v.received; nones = v.nones; done_at = v.done_at }
+
+-- a node's end of a control stays on the same two lines, and a node without one has none
+abbrev pub SameLines : Option CommandsView → Option CommandsView → Type 0
+SameLines None to = to ≡ None
+SameLines (Some c) to = (d : CommandsView) × (to ≡ Some d) × (d.out ≡ c.out) × (d.back ≡ c.back)

@@ -6,8 +6,10 @@ pub mod Showing
 pub mod Nodes
 pub mod Waits
 pub mod Moments
+pub mod Pauses
 pub mod Turns
 pub mod TurnExamples
+pub mod PauseExamples
 pub mod ShowingExamples
 pub mod Working
 pub mod Hosting

@@ -18,7 +18,7 @@ use Rattle.srm_node.specs.Carrying.{KeepsLists}
 abbrev pub moment_of : ℕ → ℕ
 moment_of told = min told LATEST_MOMENT
 
--- the journal, the feeds by slot, the stroke queue, the stroke in hand, the moment from which it is to leave if it was asked to, its end of a control if it has one,
+-- the journal, the feeds by slot, the stroke queue, the stroke in hand, when it is to leave if it was asked to, its end of a control if it has one,
 -- how many calls of the wire failed, what the wire told if it tells, and the wire and the clock as they stand
 pub record NodeView (X C : Type 0) : Type 0 where
   pub journal : Journal

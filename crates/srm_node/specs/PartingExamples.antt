@@ -1,4 +1,4 @@
--- A node's turn in which its member leaves and each lane has its close, and the run that ends by it, at worked examples.
+-- A node's turn where its member leaves and each lane gets its close, and the run that ends by it, at worked examples.
 use Rattle.std.specs.Prelude.{◌≡◌, ℕ, ◌==◌, true, false, List, [], ◌∷◌, ◌++◌, map, take, Option, Some, None, Ok, Err, refl}
 use Rattle.std.specs.List.{AllByRecursion}
 use Rattle.std.proofs.Common.{arith, inl, sym, ◌∙◌, ap, lit≤, lit<}

@@ -107,7 +107,7 @@ pub record DrawsStrokes (now count : ℕ) (none_found : Bool) (old new : Journal
   pub pops : PopsStrokes (once none_found) from to (option_to_list hand) all
   pub draws : DrawsOf now count all (option_to_list kept) old new
 
--- As many were drawn as the turn might, by which it isn't known whether more are left; or fewer, and the stroke queue had none; or the one in hand isn't admitted.
+-- As many were drawn as the turn might, so that it isn't known whether more are left; or fewer, and the stroke queue had none; or the one in hand isn't admitted.
 abbrev pub DrawingEnds : (now most count : ℕ) → Bool → Journal → Option Stroke → Type 0
 DrawingEnds now most count none_left j (Some s) = (none_left ≡ false) × IsAdmitted now j s false
 DrawingEnds now most count none_left j None = MatchBool none_left (count < most) (count ≡ most)
@@ -119,7 +119,7 @@ pub record DrewStrokes (now most : ℕ) (none_left : Bool) (old new : Journal) (
   pub draws : DrawsStrokes now count none_left old new from to hand kept
   pub ends : DrawingEnds now most count none_left new kept
 
--- Memory ran out: the stroke for which it did is in hand.
+-- Memory ran out: the stroke that needed it is in hand.
 pub record DrewStrokesCut (now most : ℕ) (old new : Journal) (from to : WellView) (hand kept : Option Stroke) : Type 0 where
   pub count : ℕ
   pub few : count < most

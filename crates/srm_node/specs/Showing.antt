@@ -74,7 +74,7 @@ abbrev pub ShowsAsked : ℕ → Journal → Journal → Option CommandsView → 
 ShowsAsked now old new None to = (new ≡ old) × (to ≡ None)
 ShowsAsked now old new (Some from) to = (next : CommandsView) × (to ≡ Some next) × Obeys now old new from next
 
--- nor is memory refused to it
+-- A node without a control can't run out of memory here.
 abbrev pub ShowsAskedCut : Journal → Journal → Option CommandsView → Option CommandsView → Type 0
 ShowsAskedCut old new None to = ⊥
 ShowsAskedCut old new (Some from) to = (next : CommandsView) × (to ≡ Some next) × ObeysCut old new from next

@@ -80,13 +80,13 @@ module _ (out : LineId PageCommand) (back : LineId PageAnswer) where
   shows_nothing_unasked : ShowsAsked 1 (journal []) (journal (shows ∷ [])) None None → ⊥
   shows_nothing_unasked h = let none : shows ∷ [] ≡ [] = ap (λ (j : Journal). j.entries) h.0 in cc
 
-  -- WANT OF MEMORY
+  -- OUT OF MEMORY
 
   -- the command is in hand for the next turn
   keeps_it : ShowsAskedCut (journal []) (journal []) (Some idle) (Some in_hand)
   keeps_it = (in_hand, refl, record { command = Show (page 3); finds = refl; same = refl })
 
-  -- in which it is found again, and no other is taken
+  -- the next turn finds it again, and takes no other
   shows_it_then : Obeys 2 (journal []) (journal (entry 0 2 (Showed (page 3)) (quiet Active) ∷ [])) in_hand (record answered { looks = 2 })
   shows_it_then = record {
     found = Some (Show (page 3));

@@ -42,7 +42,7 @@ at_each P (x ∷ xs) h (suc k) f at_f = at_each (λ i g. P (suc i) g) xs h.1 k f
 abbrev pub feed : ℕ → List PageMsg → LaneId → FeedView
 feed slot put lane = record { put = put; seen = 0; disconnected = false; slot = slot; lane = lane; board = lane.board }
 
--- eight feeds, of which the first one put these, and each other one those
+-- eight feeds: the first one put these, and each other one those
 abbrev pub eight : List PageMsg → List PageMsg → LaneId → List FeedView
 eight put rest lane = feed 0 put lane ∷ feed 1 rest lane ∷ feed 2 rest lane ∷ feed 3 rest lane ∷ feed 4 rest lane ∷ feed 5 rest lane ∷ feed 6 rest lane ∷ feed 7 rest lane ∷ []
 

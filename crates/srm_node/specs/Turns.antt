@@ -89,7 +89,7 @@ pub record TurnToTick {X C : Type 0} (calls : Calls X C) (unheard unsent : Bool)
   pub to_showing : TurnToShowing calls now unheard old shown
   pub ticks : TicksNow calls.sends now unsent shown new
 
--- a turn, by which all slots are served behind the tick
+-- a turn, which serves all slots behind the tick
 pub record Turned {X C : Type 0} (calls : Calls X C) (unheard unsent : Bool) (old new : NodeView X C) : Type 0 where
   pub ticked : NodeView X C
   pub to_tick : TurnToTick calls unheard unsent old ticked
@@ -146,7 +146,7 @@ pub record CutDrawing {X C : Type 0} (calls : Calls X C) (old new : NodeView X C
   pub looks : LooksNow heard looked
   pub draws : DrawsCut now most looked new
 
--- as it was to leave, of which nothing was done
+-- as it was to leave, which wasn't done
 pub record CutLeaving {X C : Type 0} (calls : Calls X C) (old new : NodeView X C) : Type 0 where
   pub now : ℕ
   pub none_left : Bool
@@ -170,7 +170,7 @@ pub record CutShowing {X C : Type 0} (calls : Calls X C) (old new : NodeView X C
   pub to_leaving : TurnToLeaving calls now unheard old left
   pub shows : ShowsCut left new
 
--- as it was to tick, of which nothing was done
+-- as it was to tick, which wasn't done
 pub record CutTicking {X C : Type 0} (calls : Calls X C) (old new : NodeView X C) : Type 0 where
   pub now : ℕ
   pub unheard : Bool
@@ -194,7 +194,7 @@ TurnEnds calls (Err Wire) old new = TurnedDeaf calls old new
 TurnEnds calls (Err Memory) old new = IsCut calls old new
 TurnEnds calls (Err Turns) old new = ⊥
 
--- the clock was read once, and the wire waited once, by which its count of failures may have risen
+-- the clock was read once, and the wire waited once, which may have raised its count of failures
 pub record Paused {X C : Type 0} (calls : Calls X C) (old new : NodeView X C) : Type 0 where
   pub told : ℕ
   pub reads : calls.reads old.clock told new.clock

@@ -1,4 +1,4 @@
--- By which words the waits are chosen that a node's journal has.
+-- Which random numbers choose the waits in a node's journal.
 use Rattle.std.specs.Prelude.{◌≡◌, ℕ}
 use Rattle.srm_world.specs.WaitWords.{RecorderView, RecordsByWords}
 

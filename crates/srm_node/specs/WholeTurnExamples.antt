@@ -1,4 +1,4 @@
--- A node's first turn, in which it draws a stroke and gives it, whole and cut, at worked examples.
+-- A node's first turn at worked examples, whole and cut: it draws a stroke and gives it.
 use Rattle.std.specs.Prelude.{◌≡◌, ◌+◌, ℕ, suc, Bool, true, false, List, [], ◌∷◌, ◌++◌, map, take, Some, None, Ok, refl, if◌then◌else◌}
 use Rattle.std.specs.List.{AllByRecursion}
 use Rattle.std.proofs.Common.{arith, inl, inr, ap, sym, lit≤}
@@ -33,7 +33,7 @@ use Rattle.srm_node.specs.Turns.{DrawsNow, LeavesNow, TicksNow, GivesNow, DrawsC
 
 -- A NEW NODE
 
--- eight feeds, of which the first one put these
+-- eight feeds: the first one put these
 abbrev pub feeds : List PageMsg → LaneId → List FeedView
 feeds put lane = eight put [] lane
 
@@ -47,7 +47,7 @@ new_feeds lane = record {
   each = at_each (λ slot f. (f.put ≡ []) × (f.disconnected ≡ false)) (feeds [] lane) ((refl, refl), ((refl, refl), ((refl, refl), ((refl, refl), ((refl, refl), ((refl, refl), ((refl, refl), ((refl, refl), tt))))))));
 }
 
--- feeds of which one has put something aren't new
+-- feeds aren't new if one has put something
 not_new : (lane : LaneId) → AreNewFeeds (feeds (Open first_page ∷ []) lane) → ⊥
 not_new lane h = let e : Open first_page ∷ [] ≡ [] = (h.each 0 (feed 0 (Open first_page ∷ []) lane) refl).0 in cc
 
@@ -271,7 +271,7 @@ whole lane well = record {
 ends_well : (lane : LaneId) (well : WellView) → TurnEnds calls (Ok tt) (before lane well) (after lane well) ≡ Turned calls false false (before lane well) (after lane well)
 ends_well lane well = refl
 
--- WHAT THE WELL GAVE
+-- WHAT THE STROKE QUEUE GAVE
 
 received_one : DrawsReceived (journal entries) (stroke ∷ []) None
 received_one = refl

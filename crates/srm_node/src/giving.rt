@@ -1,6 +1,6 @@
 //! Giving to the page workers.
 
-ghost use Rattle.std.specs.Prelude.{◌≡◌, ◌<◌, true, false, map, length, MatchResult};
+ghost use Rattle.std.specs.Prelude.{◌≡◌, ◌<◌, ◌||◌, not, true, false, map, length, MatchResult};
 ghost use Rattle.srm_names.specs.declared.limits.TheConstants.{PAGES};
 ghost use Rattle.srm_pages.specs.Ends.{credit_of};
 ghost use Rattle.srm_entries.specs.Giving.{given};
@@ -18,7 +18,8 @@ use srm_timers::Words;
 use srm_world::{Past, Recorder};
 use std::sync::Wait;
 
-/// Gives each page slot messages while there is credit and something to give, unless its feed is disconnected. `closed` keeps for each feed whether it put its close.
+/// Gives each page slot messages while there is credit and something to give, unless its feed is disconnected. `closed` keeps for each feed whether it put its close;
+/// `gave` becomes true with the first message that a lane takes, and else stays.
 ///
 /// Fails only if out of memory. The slots before are served then.
 pub fn give_all<R: Wait, W: Words + Drop, P: Past<Entry> + Drop>(
@@ -26,6 +27,7 @@ pub fn give_all<R: Wait, W: Words + Drop, P: Past<Entry> + Drop>(
     recorder: &mut Recorder<W, P>,
     feeds: &mut Vec<Feed>,
     closed: &mut Vec<bool>,
+    gave: &mut bool,
 ) -> Result<(), OutOfMemory>
     requires lawful { IsLawfulJournal recorder.old.journal }
     requires slots { length feeds.old.items ≡ PAGES }
@@ -40,7 +42,7 @@ pub fn give_all<R: Wait, W: Words + Drop, P: Past<Entry> + Drop>(
         let place = usize::from(slot);
         let feed = &mut feeds[place];
         let last = &mut closed[place];
-        give_slot(rt, recorder, feed, slot, last)?;
+        give_slot(rt, recorder, feed, slot, last, gave)?;
     }
     Ok(())
 }
@@ -52,6 +54,7 @@ fn give_slot<R: Wait, W: Words + Drop, P: Past<Entry> + Drop>(
     feed: &mut Feed,
     slot: u8,
     closed: &mut bool,
+    gave: &mut bool,
 ) -> Result<(), OutOfMemory>
     requires lawful { IsLawfulJournal recorder.old.journal }
     requires slot { slot < PAGES }
@@ -69,7 +72,7 @@ fn give_slot<R: Wait, W: Words + Drop, P: Past<Entry> + Drop>(
         if feed.credit() == 0 {
             return Ok(());
         }
-        let ended = give_next(rt, recorder, feed, slot, closed)?;
+        let ended = give_next(rt, recorder, feed, slot, closed, gave)?;
         if ended {
             return Ok(());
         }
@@ -84,6 +87,7 @@ fn give_next<R: Wait, W: Words + Drop, P: Past<Entry> + Drop>(
     feed: &mut Feed,
     slot: u8,
     closed: &mut bool,
+    gave: &mut bool,
 ) -> Result<bool, OutOfMemory>
     requires lawful { IsLawfulJournal recorder.old.journal }
     requires slot { slot < PAGES }
@@ -92,6 +96,7 @@ fn give_next<R: Wait, W: Words + Drop, P: Past<Entry> + Drop>(
     requires carries { Carries (given recorder.old.journal.entries slot) feed.old }
     requires closed { closed.old ≡ has_closed feed.old }
     ensures closed { closed.new ≡ has_closed feed.new }
+    ensures gave { MatchResult result (λ ended. gave.new ≡ (gave.old || not ended)) (λ _. gave.new ≡ gave.old) }
     ensures words { WaitsByWords W.next_word recorder.old recorder.new }
     ensures gives { MatchResult result (λ ended. Gives slot ended recorder.old.journal recorder.new.journal feed.old feed.new)
         (λ _. Gives slot false recorder.old.journal recorder.new.journal feed.old feed.new) }
@@ -107,5 +112,6 @@ fn give_next<R: Wait, W: Words + Drop, P: Past<Entry> + Drop>(
         return Ok(true);
     };
     *closed |= closing;
+    *gave = true;
     Ok(false)
 }

@@ -6,13 +6,14 @@ ghost use Rattle.srm_names.specs.declared.limits.TheConstants.{PAGES};
 ghost use Rattle.srm_node.specs.Calls.{calls_of};
 ghost use Rattle.srm_node.specs.Nodes.{NodeKeepsLists};
 ghost use Rattle.srm_node.specs.Turns.{RunsToEnd};
-ghost use Rattle.srm_node.specs.Hosting.{start_of, starts_of, kinds_of, Starts, StartsSome, StopsBy, WorkedAs, WorkedEach, SameWell, Hosts, HostsWith, HostFails, HostFailsWith, AreEndsOfLanes};
+ghost use Rattle.srm_node.specs.Hosting.{start_of, starts_of, kinds_of, Starts, StartsSome, StopsBy, WorkedAs, WorkedEach, SameWell, SameLines, Hosts, HostsWith, HostFails, HostFailsWith, AreEndsOfLanes};
 
 use crate::fault::NodeFault;
 use crate::node::Node;
 use crate::sink::PageSink;
 use crate::working::{Worked, work};
 use srm_agent::Entry;
+use srm_control::PageCommands;
 use srm_names::{PAGES, PageMsg};
 use srm_pages::ends::Well;
 use srm_pages::{Feed, Tap};
@@ -86,14 +87,24 @@ pub fn host<
         (λ fault. (all : Bool) × HostFails (calls_of C.reads X.receives X.sends X.pauses) (kinds_of L.appended L.is_refused S.sees) all node.view (starts_of taps.items sinks.items) turns fault h)) }
     ensures lanes { IfOk result (λ h. IfOk h.end (λ _. AreEndsOfLanes node.view.feeds taps.items → AreEndsOfLanes h.feeds.items (map (λ w. w.tap) h.worked.items))) }
 {
-    let (hosted, _) = host_with_well(rt, alloc, node, taps, sinks, turns)?;
+    let (hosted, _) = host_with_ends(rt, alloc, node, taps, sinks, turns)?;
     Ok(hosted)
 }
 
-/// Does what [`host`] does, and returns the node's stroke queue too, so that [`Well::join_pen`] can compare what it received with what each producer sent. Fails
-/// only if out of memory before any worker is started.
+/// A node's ends of what it shared with threads that draw and command, to be put beside the others.
+#[derive(Drop)]
+pub struct NodeEnds {
+    /// Its stroke queue, which [`Well::join_pen`] compares with a producer.
+    pub well: Well,
+    /// Its end of a control, if it has one, which [`settle_control`](srm_control::settle_control) compares with the control.
+    pub commands: Option<PageCommands>,
+}
+
+/// Does what [`host`] does, and returns the node's ends of its stroke queue and its control too. Fails only if out of memory before any worker is started.
+///
+/// A command that the node didn't answer gets no answer any more; but as long as the node's end is there, whoever waits for one isn't told so.
 #[tactic(auto, using(crate::proofs::Hosts::host_ends, crate::proofs::Hosts::host_lanes))]
-pub fn host_with_well<
+pub fn host_with_ends<
     R: Threads + Wait + Copy + Send + 'static,
     W: Words + Drop,
     X: Wire + Drop,
@@ -108,13 +119,14 @@ pub fn host_with_well<
     taps: Vec<Tap>,
     sinks: Vec<S>,
     turns: u64,
-) -> Result<(Hosted<P, L>, Well), AllocError>
+) -> Result<(Hosted<P, L>, NodeEnds), AllocError>
     requires taps { vec_len taps ≡ PAGES }
     requires sinks { vec_len sinks ≡ PAGES }
     ensures hosts { IfOk result (λ r. MatchResult r.0.end (λ _. HostsWith (calls_of C.reads X.receives X.sends X.pauses) (kinds_of L.appended L.is_refused S.sees) node.view (starts_of taps.items sinks.items) turns r.1 r.0)
         (λ fault. (all : Bool) × HostFailsWith (calls_of C.reads X.receives X.sends X.pauses) (kinds_of L.appended L.is_refused S.sees) all node.view (starts_of taps.items sinks.items) turns fault r.1 r.0)) }
     ensures lanes { IfOk result (λ r. IfOk r.0.end (λ _. AreEndsOfLanes node.view.feeds taps.items → AreEndsOfLanes r.0.feeds.items (map (λ w. w.tap) r.0.worked.items))) }
-    ensures well { IfOk result (λ r. IfOk r.0.end (λ _. SameWell node.view.well r.1)) }
+    ensures well { IfOk result (λ r. IfOk r.0.end (λ _. SameWell node.view.well r.1.well)) }
+    ensures control { IfOk result (λ r. IfOk r.0.end (λ _. SameLines node.view.control r.1.commands)) }
 {
     let (mut workers, mut worked) = places(alloc)?;
     let all = begin(rt, alloc, taps, sinks, &mut workers, &mut worked);
@@ -151,7 +163,7 @@ fn go<
     turns: u64,
     workers: VecDeque<Worker<L, S>>,
     worked: Vec<Worked<L>>,
-) -> (Hosted<P, L>, Well)
+) -> (Hosted<P, L>, NodeEnds)
     requires room { vec_len worked + length workers.items ≤ vec_capacity worked }
     requires none { worked.items ≡ [] }
     ensures ends { MatchResult result.0.end (λ _. (all ≡ true) × HostsWith (calls_of C.reads X.receives X.sends X.pauses) (kinds_of L.appended L.is_refused S.sees) node.view (map start_of workers.items) turns result.1 result.0)
@@ -160,7 +172,7 @@ fn go<
 {
     let mut node = node;
     let end = run_if(rt, &mut node, all, turns);
-    let (journal, feeds, well, _) = node.into_parts();
+    let (journal, feeds, well, commands) = node.into_parts();
     let feeds = kept(alloc, feeds, end.is_ok());
     let worked = join_all(rt, workers, worked);
     let hosted = Hosted {
@@ -169,7 +181,7 @@ fn go<
         worked,
         end,
     };
-    (hosted, well)
+    (hosted, NodeEnds { well, commands })
 }
 
 // Starts the workers. Whether all were started.

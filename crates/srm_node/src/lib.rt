@@ -3,8 +3,8 @@
 //! A [`Node`] turns: it hears what came, draws what its producers sent, shows the page that another thread asks for, ticks, sends, and gives the page workers their messages.
 //! [`host`] runs a node and its eight page workers until the member has left.
 //!
-//! A page worker ([`work`]) shows what it takes to a [`PageSink`]. [`host`] returns a [`Hosted`], with a [`Worked`] for each worker; [`host_with_well`] returns the
-//! stroke queue too. [`Node::counts`] returns what came to nothing ([`Counts`]). The wires and the clock are those of `srm_wire`.
+//! A page worker ([`work`]) shows what it takes to a [`PageSink`]. [`host`] returns a [`Hosted`], with a [`Worked`] for each worker; [`host_with_ends`] returns the
+//! node's ends of its stroke queue and its control too. [`Node::counts`] returns what came to nothing ([`Counts`]). The wires and the clock are those of `srm_wire`.
 //!
 //! ```
 //! let mut node = Node::new(alloc, config, words, wire, clock, feeds, well)?;
@@ -36,7 +36,7 @@ mod working;
 
 pub use counting::Counts;
 pub use fault::NodeFault;
-pub use hosting::{Hosted, Worker, WorksOn, host, host_with_well};
+pub use hosting::{Hosted, NodeEnds, Worker, WorksOn, host, host_with_ends};
 pub use node::Node;
 pub use sink::PageSink;
 pub use srm_wire::{Clock, Fate, Flaky, MemWire, Sent, Wire, WireFault, hub};

@@ -54,7 +54,7 @@ pub struct Node<
     wire: X,
     clock: C,
     buffer: Vec<u8>,
-    // The moment from which it is to leave, if it was asked to and hasn't left.
+    // When it is to leave, if it was asked to and hasn't left.
     asked: Option<u64>,
     commands: Option<PageCommands>,
     // For each feed, whether it put its close.
@@ -308,8 +308,9 @@ impl<W: Words + Drop, X: Wire + Drop, C: Clock + Drop, P: Past<Entry> + Drop> No
     /// Turns up to `turns` times, with a pause before each turn but a node's first, until the member is gone and each feed has put its close or is disconnected. Reads
     /// the clock once for a pause and once for a turn.
     ///
-    /// A pause lasts until something is due or the rate lets the stroke in hand go, at most 10,000 microseconds. After a turn that heard and drew nothing, and found no
-    /// command, it lasts at least 1,000. After a turn that heard 64 datagrams, drew all that it might or found a command there is none. The wire may end a pause sooner.
+    /// A pause lasts until something is due or the rate lets the stroke in hand go, at most 10,000 microseconds, and at most 1,000 after a turn that gave a message.
+    /// After a turn that heard and drew nothing, and found no command, it lasts at least 1,000. After a turn that heard 64 datagrams, drew all that it might or found a
+    /// command there is none. The wire may end a pause sooner.
     ///
     /// Returns the first fault of a turn, or `Turns` if the turns are spent. It may be called again then, and goes on.
     pub fn run<R: Wait>(&mut self, rt: &R, turns: u64) -> Result<(), NodeFault>
@@ -355,7 +356,7 @@ impl<W: Words + Drop, X: Wire + Drop, C: Clock + Drop, P: Past<Entry> + Drop> No
         self.wire.pause(micros);
     }
 
-    // The moment from which the rate lets the stroke in hand go.
+    // When the rate lets the stroke in hand go.
     fn hand_due(&self) -> Option<u64> {
         match &self.hand {
             Some(stroke) => self.recorder.admits_draw_from(stroke.body.len()),
@@ -468,7 +469,16 @@ impl<W: Words + Drop, X: Wire + Drop, C: Clock + Drop, P: Past<Entry> + Drop> No
         ensures gives { MatchResult result (λ _. GivesNow PAGES self.old.view self.new.view) (λ _. GivesCut self.old.view self.new.view) }
         ensures words { WaitsByWords W.next_word (recorded_in self.old) (recorded_in self.new) }
     {
-        give_all(rt, &mut self.recorder, &mut self.feeds, &mut self.closed)
+        let mut gave = false;
+        let given = give_all(
+            rt,
+            &mut self.recorder,
+            &mut self.feeds,
+            &mut self.closed,
+            &mut gave,
+        );
+        self.last.gave = gave;
+        given
     }
 }
 

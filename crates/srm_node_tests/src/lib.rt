@@ -1,8 +1,8 @@
 //! Nodes and wires in memory at worked calls, as their callers see them: what no clause says, that calls go through with ample memory
 //! and that messages arrive.
 //!
-//! Most tests are lists of steps, which one function takes with a node whose clock is set by hand. The tests stand in a crate of their
-//! own: the node is proved once, and not a second time with them.
+//! Most tests are lists of steps, which one function takes with a node whose clock the test sets. The tests have their own crate: the
+//! node is proved once, and not a second time with them.
 #![tactic(auto)]
 
 #[cfg(test)]

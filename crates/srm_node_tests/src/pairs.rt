@@ -1,4 +1,4 @@
-//! Two nodes over a network in memory, turned by hand.
+//! Two nodes over a network in memory. The test turns them.
 
 use crate::plays::{pair, two};
 use crate::steps::{Step, play};

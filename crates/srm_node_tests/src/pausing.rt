@@ -6,6 +6,7 @@ use crate::steps::{Step, play};
 use srm_agent::Config;
 use srm_control::PageCommand;
 use srm_node::NodeFault;
+use srm_rig::Seen;
 use srm_rig_members::config_at;
 use std::alloc::Global;
 use std::process::Abort;
@@ -51,12 +52,12 @@ fn settings(rt: &impl Abort, rate: u32, depth: u32) -> Config {
     config_at(0, 2, rate, depth).expect(rt, "settings")
 }
 
-// A node made at 5 sends its first session message at 1,000,005.
+// A node made at 5 gives its page in its first turn, and sends its first session message at 1,000,005.
 #[test]
 fn a_node_pauses_until_something_is_due(rt: HostRuntime) {
     let pauses = [
         Pause(5, 0, 0),
-        Pause(5, 0, 10_000),
+        Pause(5, 0, 1_000),
         Pause(5, 1, 10_000),
         Pause(5, 0, 10_000),
         Pause(990_004, 0, 10_000),
@@ -109,10 +110,15 @@ fn a_node_does_not_pause_after_64_strokes(rt: HostRuntime) {
     );
 }
 
-// 10 datagrams leave room for 54 strokes, which are a full turn then; the ten that are left aren't.
+// 10 datagrams leave room for 54 strokes, which are a full turn then; the ten that are left aren't, but nine of them are given.
 #[test]
 fn a_node_does_not_pause_after_it_drew_all_that_it_might(rt: HostRuntime) {
-    let pauses = [Pause(5, 10, 0), Pause(5, 0, 0), Pause(5, 0, 10_000)];
+    let pauses = [
+        Pause(5, 10, 0),
+        Pause(5, 0, 0),
+        Pause(5, 0, 1_000),
+        Pause(5, 0, 10_000),
+    ];
     play_pauses(
         &rt,
         rt.alloc(),
@@ -130,7 +136,62 @@ fn a_node_does_not_pause_after_it_showed_a_page(rt: HostRuntime) {
     play_pauses(&rt, rt.alloc(), config(&rt, 0, 2), &steps, &pauses);
 }
 
-// Nothing is due any more of a member that is gone, but its lane is full and has no close yet.
+/// After this step the node has paused so long before its turn.
+#[derive(Clone, Copy)]
+struct Behind(Step, u64);
+
+fn play_behind<R: Wait + Abort>(
+    rt: &R,
+    alloc: Global,
+    config: Config,
+    first: Step,
+    pauses: &[Behind],
+) {
+    let notes = new_notes(rt, alloc);
+    let mut rig = make_rig(rt, alloc, config, make_noting(rt, &notes), 0);
+    play(rt, alloc, &mut rig, &[first]);
+    for one in pauses {
+        let Behind(step, wanted) = *one;
+        play(rt, alloc, &mut rig, &[step]);
+        run_once(rt, alloc, &mut rig, &notes, Pause(5, 0, wanted));
+    }
+}
+
+// A lane holds 64 messages, here the page and 63 strokes of 128. A worker that takes gets more within a millisecond; for one that doesn't, the node pauses as if idle.
+#[test]
+fn a_node_pauses_a_millisecond_after_it_gave(rt: HostRuntime) {
+    let pauses = [
+        Behind(Step::At(5), 0),
+        Behind(Step::At(5), 10_000),
+        Behind(Step::Takes(0, Seen::Open(0, 0)), 10_000),
+        Behind(Step::Takes(0, Seen::Draw(0, 1, 1, b'x')), 1_000),
+        Behind(Step::Takes(0, Seen::Draw(0, 2, 1, b'x')), 1_000),
+        Behind(Step::At(5), 1_000),
+        Behind(Step::At(5), 10_000),
+    ];
+    play_behind(
+        &rt,
+        rt.alloc(),
+        settings(&rt, 100_000_000, 1_000_000),
+        Step::Fill(2),
+        &pauses,
+    );
+}
+
+// What comes back from a lane without its tap wasn't given.
+#[test]
+fn a_node_pauses_longer_after_a_message_came_back(rt: HostRuntime) {
+    let pauses = [Pause(5, 0, 0), Pause(5, 0, 10_000)];
+    play_pauses(
+        &rt,
+        rt.alloc(),
+        config(&rt, 0, 2),
+        &[Step::DropTap],
+        &pauses,
+    );
+}
+
+// Nothing is due any more of a member that is gone and gave a close in the other lanes, but its first lane is full and has no close yet.
 #[test]
 fn a_node_that_is_gone_pauses_no_longer(rt: HostRuntime) {
     let steps = [
@@ -145,7 +206,7 @@ fn a_node_that_is_gone_pauses_no_longer(rt: HostRuntime) {
         rt.alloc(),
         settings(&rt, 100_000_000, 1_000_000),
         &steps,
-        &[Pause(5, 0, 10_000)],
+        &[Pause(5, 0, 1_000), Pause(5, 0, 10_000)],
     );
 }
 
@@ -165,9 +226,9 @@ fn assert_pauses<R: Wait + Abort>(
     assert_eq!(rt; notes.paused_in_all.load(Ordering::SeqCst), micros);
 }
 
-// A run pauses once before each turn, a node's first for no time; a turn by hand doesn't pause.
+// A run pauses once before each turn, a node's first for no time and the second, behind the page that is given, for a millisecond; a single turn doesn't pause.
 #[test]
 fn each_turn_of_a_run_has_its_pause(rt: HostRuntime) {
     let steps = [Step::Run(5, Err(NodeFault::Turns)), Step::Turn(Ok(()))];
-    assert_pauses(&rt, rt.alloc(), config(&rt, 0, 2), &steps, 5, 40_000);
+    assert_pauses(&rt, rt.alloc(), config(&rt, 0, 2), &steps, 5, 31_000);
 }

@@ -21,7 +21,7 @@ fn shallow(rt: &impl Abort, me: u8) -> Config {
 }
 
 // A stroke of 1,024 bytes is a datagram of 1,051, which is all the tokens: the next may go 131,375 microseconds later. The third stands
-// in the well.
+// in the stroke queue.
 #[test]
 fn strokes_above_the_rate_stay_and_all_go_in_the_end(rt: HostRuntime) {
     let alloc = rt.alloc();
@@ -90,7 +90,7 @@ fn next_of_three<R: Wait + Abort + Copy + Drop>(
     make_rig(&rt, alloc, config(&rt, me, 3), wire, 0)
 }
 
-/// At this moment a member's pen sends what the well takes of so many strokes, and its node turns once. How many are left.
+/// At this moment a member's producer sends what the stroke queue takes of so many strokes, and its node turns once. How many are left.
 fn flow_at<R: Wait + Abort + Drop>(
     rt: &R,
     alloc: Global,

@@ -1,4 +1,4 @@
-//! A node with what is outside it: its clock, its taps, its pens, and wires of members without a node.
+//! A node with what is outside it: its clock, its taps, its producers, and wires of members without a node.
 
 use srm_agent::{Config, Entry};
 use srm_control::PageControl;
@@ -12,7 +12,7 @@ use std::process::Abort;
 use std::sync::atomic::{AtomicU64, Ordering};
 use std::sync::{Arc, Wait};
 
-/// A clock that is set by hand, and goes on by so many microseconds whenever it is read.
+/// A clock that the test sets, and that goes on by so many microseconds whenever it is read.
 #[derive(Drop)]
 pub(crate) struct TestClock {
     now: Arc<AtomicU64, Global>,

@@ -51,7 +51,7 @@ fn a_node_stays_until_its_pens_are_done(rt: HostRuntime) {
     play_alone(rt, rt.alloc(), &steps, &[]);
 }
 
-// As far as the node knows, strokes of the pen that was dropped may still be under way.
+// As far as the node knows, strokes of the producer that was dropped may still be under way.
 #[test]
 fn a_pen_dropped_before_it_is_done_keeps_the_node(rt: HostRuntime) {
     let steps = [
@@ -121,7 +121,7 @@ fn a_leaving_can_be_put_off(rt: HostRuntime) {
     play_alone(rt, rt.alloc(), &steps, &[]);
 }
 
-// A session in which each turn hears something holds nobody back.
+// A session where each turn hears something holds nobody back.
 #[test]
 fn a_node_leaves_in_a_turn_that_hears(rt: HostRuntime) {
     let steps = [
@@ -149,7 +149,7 @@ fn a_turn_that_hears_64_datagrams_draws_and_leaves(rt: HostRuntime) {
     play_beside(rt, rt.alloc(), &steps, &[]);
 }
 
-// A stroke in hand and 64 in the well are one more than a turn draws: the last one goes in the next turn, and only then the member leaves.
+// A stroke in hand and 64 in the stroke queue are one more than a turn draws: the last one goes in the next turn, and only then the member leaves.
 #[test]
 fn a_node_leaves_behind_the_65th_stroke(rt: HostRuntime) {
     let steps = [

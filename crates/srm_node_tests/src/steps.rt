@@ -20,19 +20,19 @@ use std::sync::atomic::Ordering;
 pub(crate) enum Step {
     /// Its clock is set to a moment.
     At(u64),
-    /// The first pen sends a stroke of one byte on the first page.
+    /// The first producer sends a stroke of one byte on the first page.
     Ink(u8),
-    /// The pen at a place sends so many equal bytes on a page of member 0.
+    /// The producer at a place sends so many equal bytes on a page of member 0.
     InkOn(usize, u16, u8, usize),
-    /// The first pen sends so many strokes of one byte on the first page.
+    /// The first producer sends so many strokes of one byte on the first page.
     InkMany(u8),
-    /// So often the first pen sends 64 strokes of one byte on the first page, and the node turns.
+    /// So often the first producer sends 64 strokes of one byte on the first page, and the node turns.
     Fill(u16),
-    /// So often the first pen fills the well with strokes of one byte on the first page, and the node runs for one turn.
+    /// So often the first producer fills the stroke queue with strokes of one byte on the first page, and the node runs for one turn.
     Flow(u16),
-    /// The last pen is dropped, and isn't done.
+    /// The last producer is dropped, and isn't done.
     DropPen,
-    /// All pens that are left are done.
+    /// All producers that are left are done.
     Done,
     /// Member 0, which has no node, sends this so often.
     Send(Sent, u8),

@@ -1,4 +1,4 @@
-//! What pens send.
+//! What producers send.
 
 use srm_pages::Pen;
 use srm_rig::body;
@@ -7,7 +7,7 @@ use std::alloc::Global;
 use std::process::Abort;
 use std::sync::Wait;
 
-/// The pen at this place sends so many equal bytes as a stroke on a page of member 0. Whether the well took it.
+/// The producer at this place sends so many equal bytes as a stroke on a page of member 0. Whether the stroke queue took it.
 fn has_inked<R: Wait + Abort>(
     rt: &R,
     alloc: Global,
@@ -21,7 +21,7 @@ fn has_inked<R: Wait + Abort>(
     ink(rt, pens, place, page, body)
 }
 
-/// The first pen sends strokes of one byte on the first page until one comes back: the well is full.
+/// The first producer sends strokes of one byte on the first page until one comes back: the stroke queue is full.
 pub(crate) fn ink_until_full<R: Wait + Abort>(rt: &R, alloc: Global, pens: &mut Vec<Pen>) {
     assert!(rt; !pens.is_empty());
     for _ in 0..65 {
@@ -32,7 +32,7 @@ pub(crate) fn ink_until_full<R: Wait + Abort>(rt: &R, alloc: Global, pens: &mut 
     panic!(rt; "no full well");
 }
 
-/// The pen at this place sends a stroke, which goes into the well.
+/// The producer at this place sends a stroke, which goes into the stroke queue.
 pub(crate) fn ink_by<R: Wait + Abort>(
     rt: &R,
     alloc: Global,
@@ -45,14 +45,14 @@ pub(crate) fn ink_by<R: Wait + Abort>(
     assert!(rt; has_inked(rt, alloc, pens, place, page, byte, length));
 }
 
-/// The first pen sends so many strokes of one byte on the first page.
+/// The first producer sends so many strokes of one byte on the first page.
 pub(crate) fn ink_many<R: Wait + Abort>(rt: &R, alloc: Global, pens: &mut Vec<Pen>, count: u8) {
     for _ in 0..count {
         ink_by(rt, alloc, pens, 0, 0, b'x', 1);
     }
 }
 
-/// The first pen sends so many strokes of 30 bytes on the first page, or as many as the well takes. How many are left.
+/// The first producer sends so many strokes of 30 bytes on the first page, or as many as the stroke queue takes. How many are left.
 pub(crate) fn ink_what_goes<R: Wait + Abort>(
     rt: &R,
     alloc: Global,

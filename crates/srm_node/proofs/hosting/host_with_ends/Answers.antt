@@ -1,7 +1,7 @@
 use Rattle.srm_node.specs.Calls.{calls_of}
 use Rattle.srm_node.specs.Hosting.{kinds_of}
-use Rattle.srm_node.proofs.Hosts.{host_ends, host_lanes, host_well}
-use Rattle.srm_node.proofs.hosting.host_with_well.Goals as goal
+use Rattle.srm_node.proofs.Hosts.{host_ends, host_lanes, host_well, host_control}
+use Rattle.srm_node.proofs.hosting.host_with_ends.Goals as goal
 
 pub returns-clause-hosts : goal.returns-clause-hosts
 returns-clause-hosts g c = host_ends (calls_of g.C.Clock.reads g.X.Wire.receives g.X.Wire.sends g.X.Wire.pauses) (kinds_of g.L.Past.appended g.L.Past.is_refused g.S.PageSink.sees) c.go.result.0.end c.args.node.view _ _ c.args.turns _ c.go.result.1 c.go.result.0 (search depth 0) (search depth 0) c.go.ensures.ends
@@ -11,3 +11,6 @@ returns-clause-lanes g c = host_lanes (calls_of g.C.Clock.reads g.X.Wire.receive
 
 pub returns-clause-well : goal.returns-clause-well
 returns-clause-well g c = host_well (calls_of g.C.Clock.reads g.X.Wire.receives g.X.Wire.sends g.X.Wire.pauses) (kinds_of g.L.Past.appended g.L.Past.is_refused g.S.PageSink.sees) c.go.result.0.end c.args.node.view _ c.args.turns c.go.result.1 c.go.result.0 (returns-clause-hosts g c)
+
+pub returns-clause-control : goal.returns-clause-control
+returns-clause-control g c = host_control (calls_of g.C.Clock.reads g.X.Wire.receives g.X.Wire.sends g.X.Wire.pauses) (kinds_of g.L.Past.appended g.L.Past.is_refused g.S.PageSink.sees) c.go.result.0.end c.args.node.view _ c.args.turns c.go.result.1 c.go.result.0 (returns-clause-hosts g c)
