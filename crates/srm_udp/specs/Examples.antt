@@ -47,7 +47,7 @@ not_none h = cc (h.0)
 a_stranger_is_dropped : (origin : SocketAddr) → Arrives (record { origin = origin; bytes = 1 ∷ [] }) (record (new_inbox []) { only_roster = true }) (record (new_inbox []) { only_roster = true; dropped = one_stranger none_dropped })
 a_stranger_is_dropped origin = inl ((refl, λ h. h), refl)
 
--- a denied datagram is answered before the one that waits, and nothing came then
+-- a denied datagram is told before the one that waits, and the receive returns None then
 a_loss_comes_first : BringsNext (Some (Some Denied)) ((1 ∷ []) ∷ []) 4 none_there (new_wire []) (one_more_loss Denied (new_wire []))
 a_loss_comes_first = (refl, refl)
 

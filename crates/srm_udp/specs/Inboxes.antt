@@ -31,7 +31,7 @@ one_stranger d = record d { strangers = one_more d.strangers }
 abbrev pub one_overflowed : Dropped → Dropped
 one_overflowed d = record d { overflowed = one_more d.overflowed }
 
--- nothing came yet
+-- no datagram waits or was dropped yet
 abbrev pub new_inbox : List SocketAddr → InboxView
 new_inbox roster = record { roster = roster; only_roster = false; waiting = []; dropped = none_dropped; pending = None }
 

@@ -17,7 +17,7 @@ pub record UdpView : Type 0 where
   pub failures : ℕ
   pub losses : Losses
 
--- a wire to the members at these addresses of which no call failed, to which nothing came, and which lost nothing
+-- a wire to the members at these addresses: no call failed, no datagram waits, and none was lost
 abbrev pub new_wire : List SocketAddr → UdpView
 new_wire roster = record { inbox = new_inbox roster; failures = 0; losses = no_losses }
 
@@ -62,7 +62,7 @@ abbrev pub answer_of : {T E : Type 0} → Result T E → Option T
 answer_of (Ok answer) = Some answer
 answer_of (Err _) = None
 
--- What comes next out of the inbox is answered: an error as a loss of its kind, where nothing came, or else as a failure.
+-- What the inbox has next is returned: an error as a loss of its kind, with None, or else as a failure.
 abbrev pub after_next : Next → UdpView → UdpView
 after_next (Datagram _) w = w
 after_next (Failed error) w = after_error error w
@@ -72,8 +72,8 @@ AnswersNext (Datagram count) answer = answer_of answer ≡ Some count
 AnswersNext (Failed (Some _)) answer = answer_of answer ≡ Some None
 AnswersNext (Failed None) answer = answer_of answer ≡ None
 
--- What a receive with room for so many bytes brings, by the error that is pending and the datagrams that wait: an error before all else, where a loss means that nothing came, and anything else
--- that the receive failed; without one the oldest datagram, cut to the room; and nothing where none waits.
+-- What a receive with room for so many bytes returns, by the error that is pending and the datagrams that wait: an error first, where a loss gives None, and
+-- anything else that the receive failed; without one the oldest datagram, cut to the room; and nothing where none waits.
 abbrev pub BringsNext : Option (Option Loss) → List (List ℕ) → ℕ → List (Option (List ℕ)) → UdpView → UdpView → Type 0
 BringsNext (Some (Some kind)) waiting room answer old new = (answer ≡ none_there) × (new ≡ one_more_loss kind (with_inbox (without_error old.inbox) old))
 BringsNext (Some None) waiting room answer old new = (answer ≡ it_failed) × (new ≡ one_more_failure (with_inbox (without_error old.inbox) old))

@@ -8,7 +8,7 @@ ghost use Rattle.srm_udp.specs.Inboxes.{none_dropped, one_overflowed, one_strang
 pub struct Dropped {
     /// Those from outside the roster, on a wire that keeps to it.
     pub strangers: u64,
-    /// Those for which the wire's queue had no room.
+    /// Those that came while the wire's queue was full.
     pub overflowed: u64,
 }
 

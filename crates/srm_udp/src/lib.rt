@@ -7,14 +7,19 @@
 //! let clock = SystemClock::new(rt)?;
 //! ```
 //!
-//! **Failures.** A `send` or `receive` fails if the system answers with an error that is no loss ([`loss_of`]). A lost datagram is requested again, so a member that ends and closes its
-//! port ends no other. [`UdpWire::losses`] counts losses by kind, [`UdpWire::dropped`] what was received and dropped.
+//! A [`Loss`] is a kind of loss, [`Losses`] counts them, and [`Dropped`] counts what was received and dropped. A [`WireWaker`] ends pauses.
+//! A [`Rested`] wire begins a pause with a rest while datagrams come close together.
+//!
+//! **Errors.** [`UdpWire::bind`] fails if the system refuses, and if out of memory. A `send` or `receive` fails if the system returns an error that is no loss
+//! ([`loss_of`]). A lost datagram is requested again, so a member that ends and closes its port ends no other. [`UdpWire::losses`] counts losses by kind,
+//! [`UdpWire::dropped`] what was received and dropped.
 #![tactic(auto)]
 
 mod backlog;
 mod dropped;
 mod inbox;
 mod loss;
+mod rested;
 mod room;
 mod roster;
 mod system_clock;
@@ -25,6 +30,7 @@ mod wire_waker;
 
 pub use dropped::Dropped;
 pub use loss::{Loss, Losses, is_loss, loss_of};
+pub use rested::Rested;
 pub use system_clock::SystemClock;
 pub use udp_wire::UdpWire;
 pub use wire_waker::WireWaker;

@@ -31,7 +31,7 @@ pub struct Losses {
     pub denied: u64,
     /// Those that were too long.
     pub too_long: u64,
-    /// Those for which the system's buffers were full.
+    /// Those that found the system's buffers full.
     pub no_room: u64,
     /// Those to a port that nobody has bound.
     pub port_closed: u64,
@@ -71,7 +71,8 @@ fn one_more(count: u64) -> u64
     count.saturating_add(1)
 }
 
-/// Returns the kind of loss that the system tells by this error, or `None` for a failure. `WouldBlock` counts as full buffers, so a caller that received has to ask for it before.
+/// Returns the kind of loss that the system tells by this error, or `None` for a failure. `WouldBlock` counts as full buffers ([`Loss::NoRoom`]), which is right for
+/// a send: a caller that received tests for it first. The numbers are Linux's.
 ///
 /// A lost datagram is requested again, so a cable that is pulled ends no member.
 pub fn loss_of(error: &io::Error) -> Option<Loss>

@@ -1,6 +1,7 @@
 //! Wires over loopback, and the clock.
 
 mod five;
+mod rested;
 
 use crate::{Dropped, Loss, Losses, SystemClock, UdpWire, is_loss, loss_of};
 use mio::net::UdpSocket;
@@ -62,7 +63,7 @@ fn assert_nothing<R: Abort>(rt: &R, wire: &mut UdpWire) {
 }
 
 /// How many microseconds a pause took.
-fn time_of_pause<C: Clock>(wire: &mut UdpWire, clock: &mut C, micros: u64) -> u64 {
+fn time_of_pause<X: Wire, C: Clock>(wire: &mut X, clock: &mut C, micros: u64) -> u64 {
     let before = clock.now();
     wire.pause(micros);
     clock.now().saturating_sub(before)
@@ -305,7 +306,7 @@ fn a_member_is_bound_to_its_own_address(rt: HostRuntime) -> Result<(), Fail> {
     Ok(())
 }
 
-/// Wakes the pauses of a wire after so many microseconds, from a thread of its own.
+/// Wakes the pauses of a wire after so many microseconds, from another thread.
 fn wake_after<R>(rt: &R, wire: &UdpWire, micros: u64) -> Result<JoinHandle<bool>, Fail>
 where
     R: time::Clock + Threads + Copy + Send + Drop + 'static,

@@ -36,9 +36,9 @@ const CALLS: u8 = 16;
 /// A member's wire over UDP: a bound socket that never blocks but in [`pause`](UdpWire::pause), which another thread may end. It counts its failures, and by kind what the
 /// system says was lost.
 ///
-/// It asks the system for 4 MiB of receive buffer, and moves what lies in the socket into its own queue as the node receives and between sends, so a burst isn't lost
-/// because the system's buffer is small. The queue has room for 32,768 datagrams and 3.75 to 4 MiB; what comes beyond is dropped and counted. All memory is allocated as the wire is
-/// made.
+/// It asks the system for 4 MiB of receive buffer. Linux grants at most `net.core.rmem_max`. It moves what lies in the socket into its own queue as the
+/// node receives and between sends, so a burst isn't lost because the system's buffer is small. The queue has room for 32,768 datagrams and 3.75 to 4 MiB; what
+/// comes beyond is dropped and counted. All memory is allocated as the wire is made.
 #[derive(Drop)]
 pub struct UdpWire {
     socket: UdpSocket,
@@ -113,7 +113,7 @@ impl UdpWire {
         })
     }
 
-    /// Returns what ends this wire's pauses from another thread. Fails only if out of memory.
+    /// Returns a handle that ends this wire's pauses from any thread. Each call returns the same one. Fails only if out of memory.
     pub fn waker(&self) -> Result<Arc<WireWaker, Global>, AllocError> {
         Arc::try_clone(&self.waker)
     }
@@ -269,8 +269,9 @@ impl Wire for UdpWire {
     ghost pauses = { λ w micros h. h ≡ w };
 
     #[tactic(auto, using(crate::proofs::Counting::sends_one))]
-    /// Sends a datagram of at most 65,507 bytes by one call of the system, without copying it. What the system says was lost is counted by its kind, and is no error. Fails, and counts a failure, if the
-    /// member has no address, the system sends only a part, or its error is no loss. Before each sixteenth call it takes in what lies in the socket.
+    /// Sends a datagram by one call of the system, without copying it. What the system says was lost is counted by its kind, and is no error: a datagram of more
+    /// than 65,507 bytes counts as [`Loss::TooLong`]. Fails, and counts a failure, if the member has no address, the system sends only a part, or its error is no
+    /// loss. Before each sixteenth call it takes in what lies in the socket.
     fn send(&mut self, to: Member, datagram: &[u8]) -> Result<(), WireFault>
         ensures failures { CountsIf (is_err result) self.old.failures self.new.failures }
         ensures each { CountsEach result self.old self.new }
@@ -281,9 +282,11 @@ impl Wire for UdpWire {
     }
 
     #[tactic(auto, using(crate::proofs::Counting::receive_behind, crate::proofs::Counting::looked_on, crate::proofs::Counting::receives_next, crate::proofs::Counting::within_next))]
-    /// Moves the oldest datagram that waits into the buffer, cut to it, and returns how many bytes that are. If none waits, and at each sixteenth call, it first takes in what lies in the socket, by one call of the
-    /// system a datagram and one more. An error that the system told meanwhile comes before all datagrams, once: a loss is counted by its kind, and nothing came then; any other is a failure. It never waits
-    /// and allocates nothing.
+    /// Moves the oldest datagram that waits into the buffer, and returns how many bytes it has there; what doesn't fit is dropped. Returns `None` if none waits. If
+    /// none waits, and at each sixteenth send or receive, it first takes in up to 256 datagrams from the socket, by one call of the system each and one more.
+    ///
+    /// An error that the system told meanwhile is returned before all datagrams, once: for a loss it counts its kind and returns `None`, though datagrams may wait;
+    /// any other error is counted and returned as [`WireFault`]. It never waits and allocates nothing.
     fn receive(&mut self, buffer: &mut [u8]) -> Result<Option<usize>, WireFault>
         ensures within { IfOk result (λ some. IfSome some (λ count. count ≤ length buffer.new)) }
         ensures failures { CountsIf (is_err result) self.old.failures self.new.failures }

@@ -1,4 +1,4 @@
-//! Five wires over loopback, each of which sends to all others.
+//! Five wires over loopback. Each sends to all others.
 
 use crate::UdpWire;
 use mio::net::UdpSocket;

@@ -1,0 +1,93 @@
+//! A wire that rests while datagrams come close together.
+
+ghost use Rattle.std.specs.Prelude.{◌≡◌, ◌≤◌};
+
+use srm_names::Member;
+use srm_wire::{Wire, WireFault};
+use std::marker::Model;
+use std::thread;
+use std::time::{Clock, Duration};
+
+/// How long a pause rests, in microseconds.
+const REST: u64 = 100;
+
+/// A wire over another one, which rests while datagrams come close together: if two or more came since the last pause that waited, a pause begins with 100 microseconds
+/// in which neither a datagram nor a wake ends it. A node hears several in its next turn then, and this thread and each page worker wake once for all of them. A
+/// datagram that comes by itself ends a pause at once. Everything else is as with the wire below, and contracts see that.
+#[derive(Drop)]
+pub struct Rested<R: Clock + Drop, X: Wire + Drop> {
+    rt: R,
+    wire: X,
+    // How many datagrams came since the last pause that waited.
+    came: u32,
+}
+
+impl<R: Clock + Drop, X: Wire + Drop> Model for Rested<R, X> {
+    ghost Value = { X };
+
+    ghost view = { λ r. r.wire };
+}
+
+impl<R: Clock + Drop, X: Wire + Drop> Rested<R, X> {
+    /// Returns a wire over this one.
+    pub fn new(rt: R, wire: X) -> Rested<R, X>
+        ensures { result ≡ wire }
+    {
+        Rested { rt, wire, came: 0 }
+    }
+
+    // Rests if datagrams come close together, but no longer than a pause may last. Returns how much of the pause is left.
+    fn rest(&mut self, micros: u64) -> u64
+        ensures left { result ≤ micros }
+        ensures same { self.new ≡ self.old }
+    {
+        let came = self.came;
+        self.came = 0;
+        if came < 2 {
+            return micros;
+        }
+        let rest = micros.min(REST);
+        thread::sleep(&self.rt, Duration::from_micros(rest));
+        micros - rest
+    }
+}
+
+impl<R: Clock + Drop, X: Wire + Drop> Wire for Rested<R, X> {
+    ghost use Rattle.std.specs.Prelude.{ℕ, ◌≤◌};
+
+    ghost failure_count = { λ r. X.failure_count r };
+
+    ghost told = { λ r. X.told r };
+
+    ghost sends = { λ r sent failed s. X.sends r sent failed s };
+
+    ghost receives = { λ r room answer s. X.receives r room answer s };
+
+    ghost pauses = { λ r micros s. (left : ℕ) × (left ≤ micros) × X.pauses r left s };
+
+    fn send(&mut self, to: Member, datagram: &[u8]) -> Result<(), WireFault> {
+        self.wire.send(to, datagram)
+    }
+
+    fn receive(&mut self, buffer: &mut [u8]) -> Result<Option<usize>, WireFault> {
+        let answer = self.wire.receive(buffer);
+        if let Ok(Some(_)) = answer {
+            self.came = self.came.saturating_add(1);
+        }
+        answer
+    }
+
+    /// Rests, if it does, and pauses the wire below for what is left of `micros`. A pause of 0 microseconds doesn't rest.
+    fn pause(&mut self, micros: u64) {
+        if micros == 0 {
+            self.wire.pause(0);
+            return;
+        }
+        let left = self.rest(micros);
+        self.wire.pause(left);
+    }
+
+    fn failures(&self) -> u64 {
+        self.wire.failures()
+    }
+}
