@@ -1,2 +1,4 @@
+pub mod Askings
 pub mod TypedLines
 pub mod LiveRuns
+pub mod PageNames

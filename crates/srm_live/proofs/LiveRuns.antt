@@ -1,10 +1,11 @@
 -- A live member's whole run, put together from what its parts tell.
-use Rattle.std.proofs.Common.{◌≡◌, ℕ, zero, suc, ◌<◌, Bool, true, List, [], ◌∷◌, ◌++◌, length, map, refl, ap, sym, ◌∙◌, subst, arith}
+use Rattle.std.proofs.Common.{◌≡◌, ℕ, zero, suc, ◌+◌, ◌<◌, ◌≤◌, Bool, true, List, [], ◌∷◌, ◌++◌, length, map, refl, ap, sym, ◌∙◌, subst, arith}
 use Rattle.std.specs.Prelude.{Option, Some, None, Result, Ok, Err, slice_get, IfOk, IfSome, MatchResult}
 use Rattle.std.proofs.lemmas.Option.{same_Some}
 use Rattle.std.specs.List.{AllByRecursion, list_all, list_any, zip}
 use Rattle.srm_names.specs.declared.limits.TheConstants.{PAGES, PENS}
 use Rattle.srm_names.specs.declared.page_msg.PageMsg.{PageMsg}
+use Rattle.srm_names.specs.Names.{first_page}
 use Rattle.srm_names.specs.Histories.{IsPrefix}
 use Rattle.srm_names.specs.PageFeeds.{is_close}
 use Rattle.srm_names.proofs.Lists.{at_place, by_place, from_places, front_of_front}
@@ -13,24 +14,41 @@ use Rattle.srm_pages.specs.Ends.{TapView, PenView, WellView}
 use Rattle.srm_pages.specs.Ink.{strokes_of, SentIs}
 use Rattle.srm_node.specs.declared.fault.NodeFault.{NodeFault}
 use Rattle.srm_node.specs.declared.hosting.Hosted.{Hosted}
+use Rattle.srm_node.specs.declared.hosting.NodeEnds.{NodeEnds}
 use Rattle.srm_node.specs.declared.working.Worked.{Worked}
 use Rattle.srm_node.specs.Calls.{Calls}
-use Rattle.srm_node.specs.Nodes.{NodeView}
-use Rattle.srm_node.specs.Hosting.{Kinds, HostsWith, HostFailsWith, SameWell}
+use Rattle.srm_control.specs.declared.command.PageCommand.{PageCommand}
+use Rattle.srm_control.specs.declared.command.PageAnswer.{PageAnswer}
+use Rattle.srm_control.specs.Ends.{ControlView, CommandsView, new_control, new_commands}
+use Rattle.srm_node.specs.Nodes.{NodeView, NodeState}
+use Rattle.srm_node.specs.Hosting.{Kinds, HostsWith, HostFailsWith, SameWell, SameLines}
 use Rattle.srm_member.specs.Stations.{HasNewEnds}
 use Rattle.srm_member.specs.Statuses.{fault_of, fault_of_lists}
-use Rattle.srm_member.specs.Strokes.{stroke_of}
 use Rattle.srm_member.specs.WholeRuns.{TakePrefixes, IsReceivedOf, SawEach}
-use Rattle.srm_member.proofs.WholeRuns.{hosted_whole, map_prefix, whole_host_well, saw_each}
+use Rattle.srm_member.proofs.WholeRuns.{without_fault, hosted_whole, map_prefix, whole_host_ends, saw_each}
 use Rattle.srm_member.proofs.WholeTakes.{of_lists, lists_closed}
-use Rattle.srm_live.specs.LiveRuns.{HaveTyped, IsWholeLiveRun, ReceivesTyped}
-use Rattle.srm_live.specs.Typing.{PenSentPrefixOf, strokes_in}
+use Rattle.srm_live.specs.Asking.{Answers, AreAmong, begins, begins_in, taken_by, answered_by, HearsLast}
+use Rattle.srm_live.specs.LiveRuns.{typist, HaveTyped, AreOnLines, AreFirstOf, IsTyped, IsWholeLiveRun, ReceivesTyped}
+use Rattle.srm_live.specs.Typing.{SentPrefixOf, pen_stroke, strokes_in}
+use Rattle.srm_live.proofs.Askings.{among_before, begins-append}
 
 pub lanes_if : (A B : Type 0) (end : Result (Unit {0}) NodeFault) → IfOk end (λ _. A → B) → A → IfOk end (λ _. B)
 lanes_if A B (Ok u) lanes before = lanes before
 lanes_if A B (Err e) lanes before = tt
 
--- PENS THAT HAVE TYPED
+-- ends that are new stay so where the node gets a control, which is new too
+pub ends_stay : {W X C : Type 0} (old new : NodeState W X C) (taps : List TapView) (pens : List PenView) (control : Option CommandsView) → HasNewEnds old.view taps pens → new ≡ record old { view = record old.view { control = control } } → HasNewEnds new.view taps pens
+ends_stay {W} {X} {C} old new taps pens control h is =
+    let here : HasNewEnds (record old.view { control = control }) taps pens = record { slots = h.slots; lanes = h.lanes; new_taps = h.new_taps; count = h.count; new_pens = h.new_pens } in
+    subst (λ (n : NodeState W X C). HasNewEnds n.view taps pens) (sym is) here
+
+pub control_is : {W X C : Type 0} (old new : NodeState W X C) (control pages : ControlView) → pages ≡ control → (control ≡ new_control control.out control.back) × (new ≡ record old { view = record old.view { control = Some (new_commands control.out control.back) } })
+    → (pages ≡ new_control pages.out pages.back) × (new.view.control ≡ Some (new_commands pages.out pages.back))
+control_is {W} {X} {C} old new control pages is (control_new, node_is) =
+    let here : (control ≡ new_control control.out control.back) × (new.view.control ≡ Some (new_commands control.out control.back)) = (control_new, ap (λ (n : NodeState W X C). n.view.control) node_is) in
+    subst (λ (p : ControlView). (p ≡ new_control p.out p.back) × (new.view.control ≡ Some (new_commands p.out p.back))) (sym is) here
+
+-- PRODUCERS THAT HAVE TYPED
 
 -- what is known of a thread that was started, and waited for
 pub typed_all : {T R : Type 0} (typing : Option T) (back : Option R) (A B : T → Type 0) (H : T → R → Type 0) (P : R → Type 0) → (typing ≡ None → back ≡ None) → IfSome back (λ r. IfSome typing (λ t. H t r)) → IfSome typing A → IfSome typing B
@@ -47,6 +65,12 @@ pub some_is : {R : Type 0} (o : Option R) (r : R) (P : R → Type 0) → IfSome 
 some_is None r P p is = cc
 some_is (Some q) r P p is = subst P (same_Some q r is) p
 
+-- what was typed, by the reader, the producers and the control that the thread was started with
+pub typed_as : {I : Type 0} (remaining : I → Option (List ℕ)) (i reader : I) (ps pens : List PenView) (c control : ControlView) (first : PenView) (others : List PenView) (last : ControlView) → i ≡ reader → pens ≡ ps → control ≡ c → HaveTyped (remaining i) ps c first others last → HaveTyped (remaining reader) pens control first others last
+typed_as remaining i reader ps pens c control first others last reader_is pens_are control_is typed =
+    subst (λ r. HaveTyped (remaining r) pens control first others last) reader_is
+    (subst (λ xs. HaveTyped (remaining i) xs control first others last) (sym pens_are) (subst (λ x. HaveTyped (remaining i) ps x first others last) (sym control_is) typed))
+
 -- a producer was put beside its stroke queue
 pub received_of : (well after : WellView) (inked back : PenView) → after ≡ well → back ≡ inked → ((held : List Stroke) × SentIs back.number back.sent after.received held) → IsReceivedOf well.received inked
 received_of well after inked back same is (held, sent) =
@@ -57,32 +81,70 @@ wells_same : {X C : Type 0} (node : NodeView X C) (taps : List TapView) (pens : 
 wells_same node taps pens well ends same k p at = ap (λ (x : PenView). x.well) (ends.new_pens k p at) ∙ sym (ap (λ (w : WellView). w.well) same)
 
 -- the producers are those of the stroke queue that the node returns
-pub live_pens : {X C : Type 0} (end : Result (Unit {0}) NodeFault) (node : NodeView X C) (taps : List TapView) (pens : List PenView) (well : WellView) (known : Option (List ℕ)) (first : PenView) (others : List PenView)
-    → HasNewEnds node taps pens → IfOk end (λ _. SameWell node.well well) → HaveTyped known pens first others → IfOk end (λ _. (first.well ≡ well.well) × AllByRecursion (λ (p : PenView). p.well ≡ well.well) others)
-live_pens (Ok u) node taps pens well known first others ends same typed = (
-  ap (λ (x : PenView). x.well) typed.same.is ∙ wells_same node taps pens well ends same 0 typed.pen (ap (λ ps. slice_get ps 0) typed.pens_are),
+pub live_pens : {X C : Type 0} (end : Result (Unit {0}) NodeFault) (node : NodeView X C) (taps : List TapView) (pens : List PenView) (well : WellView) (known : Option (List ℕ)) (control : ControlView) (first : PenView) (others : List PenView) (last : ControlView)
+    → HasNewEnds node taps pens → IfOk end (λ _. SameWell node.well well) → HaveTyped known pens control first others last → IfOk end (λ _. (first.well ≡ well.well) × AllByRecursion (λ (p : PenView). p.well ≡ well.well) others)
+live_pens (Ok u) node taps pens well known control first others last ends same typed = (
+  ap (λ (x : PenView). x.well) typed.same.pen.is ∙ wells_same node taps pens well ends same 0 typed.pen (ap (λ ps. slice_get ps 0) typed.pens_are),
   from_places (λ (p : PenView). p.well ≡ well.well) others (λ k p at. wells_same node taps pens well ends same (suc k) p (ap (λ ps. slice_get ps (suc k)) typed.pens_are ∙ at)),
 )
-live_pens (Err e) node taps pens well known first others ends same typed = tt
+live_pens (Err e) node taps pens well known control first others last ends same typed = tt
+
+-- THE CONTROL
+
+-- a node with a control, and the control, are on the same lines at its end
+pub live_lines : (end : Result (Unit {0}) NodeFault) (before after : Option CommandsView) (known : Option (List ℕ)) (pens : List PenView) (control : ControlView) (first : PenView) (others : List PenView) (last : ControlView) → before ≡ Some (new_commands control.out control.back)
+    → IfOk end (λ _. SameLines before after) → HaveTyped known pens control first others last → IfOk end (λ _. AreOnLines after last)
+live_lines (Err e) before after known pens control first others last is same typed = tt
+live_lines (Ok u) before after known pens control first others last is same typed =
+    let (c, after_is, out, back) = subst (λ o. SameLines o after) is same in
+    let here : AreOnLines (Some c) last = (ap (λ (x : ControlView). x.out) typed.same.control.is ∙ sym out, ap (λ (x : ControlView). x.back) typed.same.control.is ∙ sym back) in
+    subst (λ o. AreOnLines o last) (sym after_is) here
+
+-- what both ends tell of each other
+pub first_of : (control : ControlView) (commands : CommandsView) → ((held : List PageCommand) × (control.commanded ≡ commands.taken ++ held)) → ((held : List PageAnswer) × (commands.answered ≡ control.answers ++ held)) → AreFirstOf (Some commands) control
+first_of control commands (sent, sent_is) (held, held_is) = ((sent, sym sent_is), (held, sym held_is))
+
+pub first_of_none : (control : ControlView) → AreFirstOf None control
+first_of_none control = tt
+
+among_answered : (some : Answers) (control last : ControlView) (c : CommandsView) → control.answers ≡ [] → HearsLast some control last → AreFirstOf (Some c) last → AreAmong some c.answered
+among_answered some control last c new heard first =
+    let (held, answered) = first.1 in
+    let answers_are : last.answers ≡ control.answers ++ heard.took = ap (λ (x : ControlView). x.answers) heard.is in
+    let took_is : heard.took ++ held ≡ c.answered = ap (λ xs. xs ++ held) (sym (answers_are ∙ ap (λ xs. xs ++ heard.took) new)) ∙ answered in
+    subst (AreAmong some) took_is (among_before some heard.took held heard.among)
+
+begins_taken : (some : Answers) (control last : ControlView) (c : CommandsView) → control.commanded ≡ [] → HearsLast some control last → AreFirstOf (Some c) last → begins c.taken ≤ begins_in some + 1
+begins_taken some control last c new heard first =
+    let (held, sent) = first.0 in
+    let commanded_are : last.commanded ≡ control.commanded ++ heard.sent = ap (λ (x : ControlView). x.commanded) heard.is in
+    let sent_is : begins c.taken + begins held ≡ begins heard.sent = sym (begins-append c.taken held) ∙ ap begins (sent ∙ commanded_are ∙ ap (λ cs. cs ++ heard.sent) new) in
+    omega (arith, sent_is, heard.begun)
 
 -- WHAT WAS DRAWN
 
-typed_part : (known : Option (List ℕ)) (pen first : PenView) (received : List Stroke) (w : WellView) → pen ≡ record { number = 0; sent = []; well = w.well } → PenSentPrefixOf known pen first → IsReceivedOf received first
-    → IfSome known (λ text. IsPrefix (strokes_of 0 received) (map (stroke_of 0) (strokes_in text)))
-typed_part None pen first received w is sent part = tt
-typed_part (Some text) pen first received w is (left, sent) part =
-    let first_is : first ≡ record { number = 0; sent = map (stroke_of 0) sent.sent; well = w.well } = sent.is ∙ ap (λ (q : PenView). record q { sent = q.sent ++ map (stroke_of q.number) sent.sent }) is in
-    let front : IsPrefix (strokes_of 0 received) (map (stroke_of 0) sent.sent) = subst (λ (q : PenView). IsPrefix (strokes_of q.number received) q.sent) first_is part in
-    front_of_front (strokes_of 0 received) (map (stroke_of 0) sent.sent) (map (stroke_of 0) (strokes_in text)) front (map_prefix (stroke_of 0) sent.sent (strokes_in text) (left, sym sent.split))
+typed_part : (known : Option (List ℕ)) (pen first : PenView) (control last : ControlView) (c : CommandsView) (received : List Stroke) (w : WellView) → pen ≡ record { number = 0; sent = []; well = w.well } → control ≡ new_control control.out control.back → SentPrefixOf known (typist pen control) (typist first last)
+    → IsReceivedOf received first → AreFirstOf (Some c) last → IfSome known (λ text. IsTyped text (Some c) received)
+typed_part None pen first control last c received w is new sent part heard = tt
+typed_part (Some text) pen first control last c received w is new (answers, left, sent) part heard =
+    let first_is : first ≡ record { number = 0; sent = map (pen_stroke 0) sent.drawn; well = w.well } = sent.sent ∙ ap (λ (q : PenView). record q { sent = q.sent ++ map (pen_stroke q.number) sent.drawn }) is in
+    let front : IsPrefix (strokes_of 0 received) (map (pen_stroke 0) sent.drawn) = subst (λ (q : PenView). IsPrefix (strokes_of q.number received) q.sent) first_is part in
+    let all = strokes_in first_page answers text in
+    record {
+      answers = answers;
+      are_given = among_answered answers control last c (ap (λ (x : ControlView). x.answers) new) sent.heard heard;
+      begun = begins_taken answers control last c (ap (λ (x : ControlView). x.commanded) new) sent.heard heard;
+      drawn = front_of_front (strokes_of 0 received) (map (pen_stroke 0) sent.drawn) (map (pen_stroke 0) all) front (map_prefix (pen_stroke 0) sent.drawn all (left, sym sent.split));
+    }
 
 front_of_none : {A : Type 0} (xs : List A) → IsPrefix xs [] → xs ≡ []
 front_of_none [] h = refl
 front_of_none (x ∷ xs) (rest, e) = cc
 
-receives_typed : {X C : Type 0} (node : NodeView X C) (taps : List TapView) (pens : List PenView) (known : Option (List ℕ)) (first : PenView) (others : List PenView) (received : List Stroke)
-    → HasNewEnds node taps pens → HaveTyped known pens first others → IsReceivedOf received first → AllByRecursion (IsReceivedOf received) others → ReceivesTyped known received
-receives_typed node taps pens known first others received ends typed part parts = record {
-  typed = typed_part known typed.pen first received node.well (ends.new_pens 0 typed.pen (ap (λ ps. slice_get ps 0) typed.pens_are)) typed.sent part;
+receives_typed : {X C : Type 0} (node : NodeView X C) (taps : List TapView) (pens : List PenView) (known : Option (List ℕ)) (control : ControlView) (first : PenView) (others : List PenView) (last : ControlView) (c : CommandsView) (received : List Stroke)
+    → HasNewEnds node taps pens → control ≡ new_control control.out control.back → HaveTyped known pens control first others last → IsReceivedOf received first → AllByRecursion (IsReceivedOf received) others → AreFirstOf (Some c) last → ReceivesTyped known (Some c) received
+receives_typed node taps pens known control first others last c received ends new typed part parts heard = record {
+  typed = typed_part known typed.pen first control last c received node.well (ends.new_pens 0 typed.pen (ap (λ ps. slice_get ps 0) typed.pens_are)) new typed.sent part heard;
   others = none;
 }
   where
@@ -96,20 +158,29 @@ receives_typed node taps pens known first others received ends typed part parts 
 
 -- THE WHOLE
 
-pub live_run : {P L S X C : Type 0} (calls : Calls X C) (kinds : Kinds L S) (turns : ℕ) (node : NodeView X C) (taps : List TapView) (pens : List PenView) (sinks : List S) (well : WellView) (h : Hosted P L) (lacks closed : Bool) (known : Option (List ℕ)) (first : PenView) (others : List PenView)
-    → HasNewEnds node taps pens → length sinks ≡ PAGES
-    → MatchResult h.end (λ _. HostsWith calls kinds node (zip taps sinks) turns well h) (λ fault. (all : Bool) × HostFailsWith calls kinds all node (zip taps sinks) turns fault well h)
+-- the node of a run without fault still has its end of the control
+has_commands : (end : Result (Unit {0}) NodeFault) (lacks : Bool) (before after : Option CommandsView) (new : CommandsView) → fault_of end lacks ≡ None → before ≡ Some new → IfOk end (λ _. SameLines before after) → (c : CommandsView) × (after ≡ Some c)
+has_commands end lacks before after new none is same =
+    let (c, after_is, out, back) = subst (λ o. SameLines o after) is (without_fault end lacks (SameLines before after) none same) in
+    (c, after_is)
+
+pub live_run : {P L S X C : Type 0} (calls : Calls X C) (kinds : Kinds L S) (turns : ℕ) (node : NodeView X C) (taps : List TapView) (pens : List PenView) (control : ControlView) (sinks : List S) (left : NodeEnds) (h : Hosted P L) (lacks closed : Bool) (known : Option (List ℕ)) (first : PenView) (others : List PenView) (last : ControlView)
+    → HasNewEnds node taps pens → (control ≡ new_control control.out control.back) × (node.control ≡ Some (new_commands control.out control.back)) → length sinks ≡ PAGES
+    → MatchResult h.end (λ _. HostsWith calls kinds node (zip taps sinks) turns left h) (λ fault. (all : Bool) × HostFailsWith calls kinds all node (zip taps sinks) turns fault left h) → IfOk h.end (λ _. SameLines node.control left.commands)
     → closed ≡ list_all (λ (w : Worked L). list_any is_close (kinds.entries w.list)) h.worked.items → fault_of_lists (fault_of h.end lacks) closed ≡ None → TakePrefixes h.feeds.items (map (λ (w : Worked L). w.tap) h.worked.items)
-    → HaveTyped known pens first others → IsReceivedOf well.received first → AllByRecursion (IsReceivedOf well.received) others
+    → HaveTyped known pens control first others last → IsReceivedOf left.well.received first → AllByRecursion (IsReceivedOf left.well.received) others → AreFirstOf left.commands last
     → (took : List (List PageMsg)) × IsWholeLiveRun calls turns known node took × SawEach kinds.sees sinks took
-live_run {P} {L} calls kinds turns node taps pens sinks well h lacks closed known first others ends count ran closed_is none takes typed part parts =
-    let host : HostsWith calls kinds node (zip taps sinks) turns well h = hosted_whole h.end lacks _ _ (of_lists _ _ _ refl none) ran in
+live_run {P} {L} calls kinds turns node taps pens control sinks left h lacks closed known first others last ends new count ran same closed_is none takes typed part parts heard =
+    let no_fault = of_lists _ _ _ refl none in
+    let host : HostsWith calls kinds node (zip taps sinks) turns left h = hosted_whole h.end lacks _ _ no_fault ran in
     let all : list_all (λ (w : Worked L). list_any is_close (kinds.entries w.list)) h.worked.items ≡ true = sym closed_is ∙ lists_closed _ _ _ refl none in
-    let (whole, well_is) = whole_host_well calls kinds turns node taps pens sinks well h ends count host takes all in (
+    let (c, commands_are) = has_commands h.end lacks node.control left.commands _ no_fault new.1 same in
+    let drawn = receives_typed node taps pens known control first others last c left.well.received ends new.0 typed part parts (subst (λ o. AreFirstOf o last) commands_are heard) in
+    let (whole, well_is, control_is) = whole_host_ends calls kinds turns node taps pens sinks left h ends count host takes all in (
       map (λ (w : Worked L). kinds.entries w.list) h.worked.items,
       record {
         host = whole;
-        draws = subst (λ (v : WellView). ReceivesTyped known v.received) well_is (receives_typed node taps pens known first others well.received ends typed part parts);
+        draws = subst (λ (v : WellView). ReceivesTyped known whole.last.control v.received) well_is (subst (λ o. ReceivesTyped known o left.well.received) (sym commands_are ∙ control_is) drawn);
       },
       saw_each kinds taps sinks h.worked.items ends.new_taps host.0.workers,
     )

@@ -1,19 +1,30 @@
 -- What is typed byte by byte is drawn line by line.
 use Rattle.std.proofs.Common.{◌≡◌, ◌≢◌, ℕ, ◌+◌, ◌<◌, ◌≤◌, Bool, true, false, List, [], ◌∷◌, ◌++◌, length, take, drop, get_or, refl, ap, sym, ◌∙◌, subst, arith}
-use Rattle.std.specs.Prelude.{map, nat_lt, if◌then◌else◌, Option, Some, None, Result, Ok, Err, OnOk, OnErr, IfSome, MatchOption}
+use Rattle.std.specs.Prelude.{map, nat_lt, if◌then◌else◌, Option, Some, None, Result, Ok, Err, OnOk, OnErr, IfOk, IfSome, MatchOption}
 use Rattle.std.specs.Io.KnownBytes.{Consumes, Keeps, IsAtEnd}
 use Rattle.std.proofs.lemmas.Bool.{ltb-true, lt-ltb}
 use Rattle.std.proofs.lemmas.List.{append-nil, append_assoc, map-append, length-append, take_more, take-append-drop, take_all}
 use Rattle.srm_names.specs.declared.limits.TheConstants.{LONGEST_BODY}
-use Rattle.srm_pages.specs.declared.stroke.Stroke.{Stroke}
+use Rattle.srm_names.specs.declared.page.Page.{Page}
+use Rattle.srm_names.specs.Names.{first_page}
 use Rattle.srm_pages.specs.Ends.{PenView}
+use Rattle.srm_pages.specs.declared.stroke.Stroke.{Stroke as AStroke}
+use Rattle.srm_control.specs.declared.command.PageCommand.{PageCommand}
+use Rattle.srm_control.specs.declared.command.PageCommand.TheVariants as commands
+use Rattle.srm_control.specs.declared.command.PageRefusal.{PageRefusal}
+use Rattle.srm_control.specs.Ends.{ControlView}
+use Rattle.srm_live.specs.declared.cut.ReadingEnd.{ReadingEnd}
 use Rattle.srm_live.specs.declared.typed.Typed.{Typed}
-use Rattle.srm_live.specs.declared.typed.Typed.TheVariants.{TooLong}
+use Rattle.srm_live.specs.declared.typed.Typed.TheVariants.{Stroke, TooLong, Order}
+use Rattle.srm_live.specs.declared.command.Command.{Command}
+use Rattle.srm_live.specs.declared.command.Command.TheVariants.{Show, Begin, Pages, Who, Help}
 use Rattle.srm_live.specs.Commands.{said_of}
 use Rattle.srm_member.specs.Lines.{lines_of, before_first}
-use Rattle.srm_member.specs.Strokes.{stroke_of}
+use Rattle.srm_member.specs.Strokes.{stroke_on}
 use Rattle.srm_member.proofs.Splitting.{other}
-use Rattle.srm_live.specs.Typing.{short_lines, strokes_in, LineContent, with_byte, typed_of, bodies_in, PenSent, SamePen, HasNoEnd, DrawsTyped, DrawsSome, DrawsLast, ReadsOf, PenSentAllOf, PenSentPrefixOf}
+use Rattle.srm_live.specs.Asking.{Answers, Place, answer_to, page_after, place_after, HearsBut, Hears, HearsLast}
+use Rattle.srm_live.specs.Typing.{Drawn, pen_stroke, drawn_at, strokes_by, strokes_in, LineContent, with_byte, typed_of, line_after, TypistView, PenSent, SameControl, SameTypist, Stays, Ends, Turns, Does, HasNoEnd, DrawsTyped, DrawsSome, DrawsLast, ReadsOf, SentAllOf, SentPrefixOf}
+use Rattle.srm_live.proofs.Askings.{same_command-itself, hears_none, hears_on, hears_last, hears_first, hears_still, hears_so}
 
 -- THE LINES OF A FRONT AND WHAT IS BEHIND IT
 
@@ -43,24 +54,29 @@ behind_before : (c : ℕ) (ls : List (List ℕ)) → drop 1 (before_first c ls) 
 behind_before c [] = refl
 behind_before c (l ∷ ls) = refl
 
-long_line : (l : List ℕ) (ls : List (List ℕ)) → nat_lt LONGEST_BODY (length l) ≡ true → short_lines (l ∷ ls) ≡ short_lines ls
-long_line l ls long = rw long refl
+-- where who types stands on a page, and these answers are to come
+abbrev at : Page → Answers → Place
+at page answers = record { page = page; answers = answers }
+
+long_line : (place : Place) (l : List ℕ) (ls : List (List ℕ)) → nat_lt LONGEST_BODY (length l) ≡ true → strokes_by (Some place) (l ∷ ls) ≡ strokes_by (Some place) ls
+long_line place l ls long = rw long refl
 
 -- a prefix that is too long is drawn with nothing behind it
-long_before : (typed_before : List ℕ) (ls : List (List ℕ)) → nat_lt LONGEST_BODY (length typed_before) ≡ true → short_lines (before_lines typed_before ls) ≡ short_lines (drop 1 ls)
-long_before typed_before [] long = long_line typed_before [] long
-long_before typed_before (l ∷ ls) long = long_line (typed_before ++ l) ls (lt-ltb LONGEST_BODY (length (typed_before ++ l)) (omega (arith, ltb-true LONGEST_BODY (length typed_before) long, length-append typed_before l)))
+long_before : (place : Place) (typed_before : List ℕ) (ls : List (List ℕ)) → nat_lt LONGEST_BODY (length typed_before) ≡ true → strokes_by (Some place) (before_lines typed_before ls) ≡ strokes_by (Some place) (drop 1 ls)
+long_before place typed_before [] long = long_line place typed_before [] long
+long_before place typed_before (l ∷ ls) long = long_line place (typed_before ++ l) ls (lt-ltb LONGEST_BODY (length (typed_before ++ l)) (omega (arith, ltb-true LONGEST_BODY (length typed_before) long, length-append typed_before l)))
 
 -- so one byte more of it changes nothing
-no_room : (typed_before more : List ℕ) (byte : ℕ) → HasNoEnd typed_before → byte ≢ 10 → nat_lt LONGEST_BODY (length typed_before) ≡ true → strokes_in (typed_before ++ byte ∷ more) ≡ strokes_in (typed_before ++ more)
-no_room [] more byte h not_end long = absurd (omega (arith, ltb-true LONGEST_BODY 0 long))
-no_room (c ∷ cs) more byte h not_end long =
-    ap short_lines (lines_behind c cs (byte ∷ more) h)
-    ∙ long_before (c ∷ cs) (lines_of (byte ∷ more)) long
-    ∙ ap (λ ls. short_lines (drop 1 ls)) (other byte (lines_of more) not_end)
-    ∙ ap short_lines (behind_before byte (lines_of more))
-    ∙ sym (long_before (c ∷ cs) (lines_of more) long)
-    ∙ sym (ap short_lines (lines_behind c cs more h))
+no_room : (place : Place) (typed_before more : List ℕ) (byte : ℕ) → HasNoEnd typed_before → byte ≢ 10 → nat_lt LONGEST_BODY (length typed_before) ≡ true
+    → strokes_by (Some place) (lines_of (typed_before ++ byte ∷ more)) ≡ strokes_by (Some place) (lines_of (typed_before ++ more))
+no_room place [] more byte h not_end long = absurd (omega (arith, ltb-true LONGEST_BODY 0 long))
+no_room place (c ∷ cs) more byte h not_end long =
+    ap (strokes_by (Some place)) (lines_behind c cs (byte ∷ more) h)
+    ∙ long_before place (c ∷ cs) (lines_of (byte ∷ more)) long
+    ∙ ap (λ ls. strokes_by (Some place) (drop 1 ls)) (other byte (lines_of more) not_end)
+    ∙ ap (strokes_by (Some place)) (behind_before byte (lines_of more))
+    ∙ sym (long_before place (c ∷ cs) (lines_of more) long)
+    ∙ sym (ap (strokes_by (Some place)) (lines_behind c cs more h))
 
 -- ONE BYTE
 
@@ -71,125 +87,281 @@ no_end_more (c ∷ cs) byte h not_end = (h.0, no_end_more cs byte h.1 not_end)
 sent_none : (pen : PenView) → PenSent [] pen pen
 sent_none pen = ap (λ sent. record pen { sent = sent }) (sym (append-nil pen.sent))
 
-pub draws_none : (typed_before : List ℕ) (pen : PenView) → DrawsTyped [] typed_before pen typed_before pen
-draws_none typed_before pen = record { drawn = []; strokes = λ h more. refl; one = λ h. h; sent = sent_none pen }
+sent_still : (old new : PenView) → new ≡ old → PenSent [] old new
+sent_still old new is = is ∙ sent_none old
+
+pub draws_none : (page : Page) (typed_before : List ℕ) (t : TypistView) → DrawsTyped [] page typed_before t page typed_before t
+draws_none page typed_before t = record { given = []; drawn = []; strokes = λ h later more. refl; one = λ h. h; sent = sent_none t.pen; heard = hears_none t.control }
 
 -- a byte that is no line end
-pub draws_byte : (byte : ℕ) (l new : LineContent) (pen : PenView) → byte ≢ 10 → new ≡ with_byte byte l → DrawsTyped (byte ∷ []) l.kept pen new.kept pen
-draws_byte byte l new pen not_end is = subst (λ n. DrawsTyped (byte ∷ []) l.kept pen n.kept pen) (sym is) (go (nat_lt LONGEST_BODY (length l.kept)) refl)
+pub draws_byte : (byte : ℕ) (l new : LineContent) (t : TypistView) → byte ≢ 10 → new ≡ with_byte byte l → DrawsTyped (byte ∷ []) l.page l.kept t new.page new.kept t
+draws_byte byte l new t not_end is = subst (λ n. DrawsTyped (byte ∷ []) l.page l.kept t n.page n.kept t) (sym is) (go (nat_lt LONGEST_BODY (length l.kept)) refl)
   where
-    go : (b : Bool) → nat_lt LONGEST_BODY (length l.kept) ≡ b → DrawsTyped (byte ∷ []) l.kept pen (if b then l else record l { kept = l.kept ++ byte ∷ [] }).kept pen
-    go true long = record { drawn = []; strokes = λ h more. no_room l.kept more byte h not_end long; one = λ h. h; sent = sent_none pen }
-    go false short = record { drawn = []; strokes = λ h more. ap strokes_in (sym (append_assoc l.kept (byte ∷ []) more)); one = λ h. no_end_more l.kept byte h not_end; sent = sent_none pen }
+    go : (b : Bool) → nat_lt LONGEST_BODY (length l.kept) ≡ b → DrawsTyped (byte ∷ []) l.page l.kept t (if b then l else record l { kept = l.kept ++ byte ∷ [] }).page (if b then l else record l { kept = l.kept ++ byte ∷ [] }).kept t
+    go true long = record { given = []; drawn = []; strokes = λ h later more. no_room (at l.page later) l.kept more byte h not_end long; one = λ h. h; sent = sent_none t.pen; heard = hears_none t.control }
+    go false short = record {
+      given = [];
+      drawn = [];
+      strokes = λ h later more. ap (strokes_in l.page later) (sym (append_assoc l.kept (byte ∷ []) more));
+      one = λ h. no_end_more l.kept byte h not_end;
+      sent = sent_none t.pen;
+      heard = hears_none t.control;
+    }
 
 -- the strokes of a text that begins with a line
-first_strokes : (l : LineContent) (ls : List (List ℕ)) → short_lines (l.kept ∷ ls) ≡ bodies_in (typed_of l) ++ short_lines ls
-first_strokes l ls = go (nat_lt LONGEST_BODY (length l.kept))
+first_strokes : (place : Place) (l : LineContent) (ls : List (List ℕ)) → strokes_by (Some place) (l.kept ∷ ls) ≡ drawn_at place.page (typed_of l) ++ strokes_by (place_after (typed_of l) place) ls
+first_strokes place l ls = go (nat_lt LONGEST_BODY (length l.kept))
   where
-    go : (b : Bool) → (if b then short_lines ls else bodies_in (said_of l.kept) ++ short_lines ls) ≡ bodies_in (if b then TooLong l.number else said_of l.kept) ++ short_lines ls
+    go : (b : Bool) → (if b then strokes_by (Some place) ls else drawn_at place.page (said_of l.kept) ++ strokes_by (place_after (said_of l.kept) place) ls)
+        ≡ drawn_at place.page (if b then TooLong l.number else said_of l.kept) ++ strokes_by (place_after (if b then TooLong l.number else said_of l.kept) place) ls
     go true = refl
     go false = refl
 
 -- a line end
-pub draws_end : (l : LineContent) (typed : Typed) (old new : PenView) → typed ≡ typed_of l → PenSent (bodies_in typed) old new → DrawsTyped (10 ∷ []) l.kept old [] new
-draws_end l typed old new is sent = record {
-  drawn = bodies_in (typed_of l);
-  strokes = λ h more. ap short_lines (line_ends l.kept more h) ∙ first_strokes l (lines_of more);
-  one = λ h. tt;
-  sent = subst (λ t. PenSent (bodies_in t) old new) is sent;
+draws_end : (l : LineContent) (typed : Typed) (old : TypistView) (turned : Page) (new : TypistView) → typed ≡ typed_of l → Does typed l.page old turned new → DrawsTyped (10 ∷ []) l.page l.kept old turned [] new
+draws_end l typed old turned new is does =
+    let d : Does (typed_of l) l.page old turned new = subst (λ t. Does t l.page old turned new) is does in
+    record {
+      given = d.given;
+      drawn = drawn_at l.page (typed_of l);
+      strokes = λ h later more.
+          ap (strokes_by (Some (at l.page (d.given ++ later)))) (line_ends l.kept more h)
+          ∙ first_strokes (at l.page (d.given ++ later)) l (lines_of more)
+          ∙ ap (λ place. drawn_at l.page (typed_of l) ++ strokes_by place (lines_of more)) (d.turns later);
+      one = λ h. tt;
+      sent = d.sent;
+      heard = d.heard;
+    }
+
+-- the same, as the line is taken, and the page noted
+pub draws_line_end : (byte : ℕ) (l after last : LineContent) (typed : Typed) (page : Page) (old : TypistView) (turned : Page) (new : TypistView) → byte ≡ 10 → typed ≡ typed_of l → after ≡ line_after l → page ≡ after.page → Does typed page old turned new → last ≡ record after { page = turned }
+    → DrawsTyped (byte ∷ []) l.page l.kept old last.page last.kept new
+draws_line_end byte l after last typed page old turned new end is next page_is does noted =
+    let at_page : page ≡ l.page = page_is ∙ ap (λ (x : LineContent). x.page) next in
+    let kept : last.kept ≡ [] = ap (λ (x : LineContent). x.kept) noted ∙ ap (λ (x : LineContent). x.kept) next in
+    let here : DrawsTyped (10 ∷ []) l.page l.kept old turned [] new = draws_end l typed old turned new is (subst (λ p. Does typed p old turned new) at_page does) in
+    let there : DrawsTyped (10 ∷ []) l.page l.kept old last.page [] new = subst (λ p. DrawsTyped (10 ∷ []) l.page l.kept old p [] new) (sym (ap (λ (x : LineContent). x.page) noted)) here in
+    subst (λ b. DrawsTyped (b ∷ []) l.page l.kept old last.page last.kept new) (sym end) (subst (λ k. DrawsTyped (10 ∷ []) l.page l.kept old last.page k new) (sym kept) there)
+
+-- WHO STAYS
+
+pub stays_none : (t : TypistView) → Stays t t
+stays_none t = record { pen = refl; heard = hears_none t.control }
+
+pub stays_on : (old mid new : TypistView) → Stays old mid → Stays mid new → Stays old new
+stays_on old mid new h k = record { pen = k.pen ∙ h.pen; heard = hears_on 0 [] [] old.control mid.control new.control h.heard k.heard }
+
+pub ends_none : (t : TypistView) → Ends t t
+ends_none t = record { pen = refl; heard = hears_so [] t.control t.control (hears_none t.control) }
+
+pub ends_still : (old new : TypistView) → new ≡ old → Ends old new
+ends_still old new is = subst (Ends old) (sym is) (ends_none old)
+
+pub ends_heard : (old new : TypistView) → new.pen ≡ old.pen → HearsLast [] old.control new.control → Ends old new
+ends_heard old new pen heard = record { pen = pen; heard = heard }
+
+-- WHAT A LINE DOES
+
+-- a command that asks for a page turns to the one that is shown, or to none
+turns_by : (command : PageCommand) (page : Page) (outcome : Result Page PageRefusal) (old new : TypistView) → new.pen ≡ old.pen → Hears (answer_to command outcome ∷ []) old.control new.control → Turns command page old (page_after page outcome) new
+turns_by command page outcome old new pen heard = record {
+  given = answer_to command outcome ∷ [];
+  turns = λ later. rw (same_command-itself command) refl;
+  pen = pen;
+  heard = heard;
 }
+
+pub turns_shown : (command : PageCommand) (page shown : Page) (old new : TypistView) → new.pen ≡ old.pen → Hears (answer_to command (Ok shown) ∷ []) old.control new.control → Turns command page old shown new
+turns_shown command page shown old new pen heard = turns_by command page (Ok shown) old new pen heard
+
+pub turns_refused : (command : PageCommand) (page : Page) (refusal : PageRefusal) (old new : TypistView) → new.pen ≡ old.pen → Hears (answer_to command (Err refusal) ∷ []) old.control new.control → Turns command page old page new
+turns_refused command page refusal old new pen heard = turns_by command page (Err refusal) old new pen heard
+
+pub does_show : (named page : Page) (old : TypistView) (turned : Page) (new : TypistView) → Turns (commands.Show named) page old turned new → Does (Order (Some (Show named))) page old turned new
+does_show named page old turned new h = record { given = h.given; turns = h.turns; sent = sent_still old.pen new.pen h.pen; heard = h.heard }
+
+pub does_begin : (page : Page) (old : TypistView) (turned : Page) (new : TypistView) → Turns commands.Begin page old turned new → Does (Order (Some Begin)) page old turned new
+does_begin page old turned new h = record { given = h.given; turns = h.turns; sent = sent_still old.pen new.pen h.pen; heard = h.heard }
+
+-- one that asks for none
+pub does_no_command : (page : Page) (t : TypistView) → Does (Order None) page t page t
+does_no_command page t = record { given = []; turns = λ later. refl; sent = sent_none t.pen; heard = hears_none t.control }
+
+pub does_pages : (page : Page) (t : TypistView) → Does (Order (Some Pages)) page t page t
+does_pages page t = record { given = []; turns = λ later. refl; sent = sent_none t.pen; heard = hears_none t.control }
+
+pub does_who : (page : Page) (t : TypistView) → Does (Order (Some Who)) page t page t
+does_who page t = record { given = []; turns = λ later. refl; sent = sent_none t.pen; heard = hears_none t.control }
+
+pub does_help : (page : Page) (t : TypistView) → Does (Order (Some Help)) page t page t
+does_help page t = record { given = []; turns = λ later. refl; sent = sent_none t.pen; heard = hears_none t.control }
+
+-- a line that is too long, or a stroke
+pub does_nothing : (number : ℕ) (page : Page) (t : TypistView) → Does (TooLong number) page t page t
+does_nothing number page t = record { given = []; turns = λ later. refl; sent = sent_none t.pen; heard = hears_none t.control }
+
+pub does_stroke : (body : List ℕ) (page : Page) (old new : TypistView) → new ≡ record old { pen = record old.pen { sent = old.pen.sent ++ stroke_on page old.pen.number body ∷ [] } } → Does (Stroke body) page old page new
+does_stroke body page old new is = record {
+  given = [];
+  turns = λ later. refl;
+  sent = ap (λ (t : TypistView). t.pen) is;
+  heard = hears_still old.control new.control (ap (λ (t : TypistView). t.control) is);
+}
+
+-- behind one who stays
+pub does_behind : (r : Result Page ReadingEnd) (typed : Typed) (page : Page) (old mid new : TypistView) → Stays old mid → IfOk r (λ turned. Does typed page mid turned new) → IfOk r (λ turned. Does typed page old turned new)
+does_behind (Err e) typed page old mid new h does = tt
+does_behind (Ok turned) typed page old mid new h does = record {
+  given = does.given;
+  turns = does.turns;
+  sent = does.sent ∙ ap (λ (p : PenView). record p { sent = p.sent ++ map (pen_stroke p.number) (drawn_at page typed) }) h.pen;
+  heard = hears_last 0 does.given old.control mid.control new.control h.heard does.heard;
+}
+
+pub ends_behind : (r : Result Page ReadingEnd) (old mid new : TypistView) → Stays old mid → OnErr r (Ends mid new) → OnErr r (Ends old new)
+ends_behind (Ok turned) old mid new h k = tt
+ends_behind (Err e) old mid new h k = record { pen = k.pen ∙ h.pen; heard = hears_last 1 [] old.control mid.control new.control h.heard k.heard }
 
 -- MANY BYTES
 
-sent_more : (a b : List (List ℕ)) (old mid new : PenView) → PenSent a old mid → PenSent b mid new → PenSent (a ++ b) old new
+sent_more : (a b : List Drawn) (old mid new : PenView) → PenSent a old mid → PenSent b mid new → PenSent (a ++ b) old new
 sent_more a b old mid new one two =
-    let joined : (old.sent ++ map (stroke_of old.number) a) ++ map (stroke_of old.number) b ≡ old.sent ++ map (stroke_of old.number) (a ++ b) =
-    append_assoc old.sent (map (stroke_of old.number) a) (map (stroke_of old.number) b) ∙ ap (λ more. old.sent ++ more) (sym (map-append (stroke_of old.number) a b)) in
-    let over_old : record mid { sent = mid.sent ++ map (stroke_of mid.number) b } ≡ record old { sent = (old.sent ++ map (stroke_of old.number) a) ++ map (stroke_of old.number) b } =
-    ap (λ (p : PenView). record p { sent = p.sent ++ map (stroke_of p.number) b }) one in
+    let spelled : Drawn → AStroke = pen_stroke old.number in
+    let joined : (old.sent ++ map spelled a) ++ map spelled b ≡ old.sent ++ map spelled (a ++ b) =
+    append_assoc old.sent (map spelled a) (map spelled b) ∙ ap (λ more. old.sent ++ more) (sym (map-append spelled a b)) in
+    let over_old : record mid { sent = mid.sent ++ map (pen_stroke mid.number) b } ≡ record old { sent = (old.sent ++ map spelled a) ++ map spelled b } =
+    ap (λ (p : PenView). record p { sent = p.sent ++ map (pen_stroke p.number) b }) one in
     two ∙ over_old ∙ ap (λ sent. record old { sent = sent }) joined
 
-draws_on : (a b typed_before : List ℕ) (old : PenView) (begun : List ℕ) (mid : PenView) (left : List ℕ) (new : PenView) → DrawsTyped a typed_before old begun mid → DrawsTyped b begun mid left new → DrawsTyped (a ++ b) typed_before old left new
-draws_on a b typed_before old begun mid left new one two = record {
+draws_on : (a b : List ℕ) (page : Page) (typed_before : List ℕ) (old : TypistView) (between : Page) (begun : List ℕ) (mid : TypistView) (turned : Page) (left : List ℕ) (new : TypistView)
+    → DrawsTyped a page typed_before old between begun mid → DrawsTyped b between begun mid turned left new → DrawsTyped (a ++ b) page typed_before old turned left new
+draws_on a b page typed_before old between begun mid turned left new one two = record {
+  given = one.given ++ two.given;
   drawn = one.drawn ++ two.drawn;
-  strokes = λ h more.
-      ap (λ t. strokes_in (typed_before ++ t)) (append_assoc a b more)
-      ∙ one.strokes h (b ++ more)
-      ∙ ap (λ t. one.drawn ++ t) (two.strokes (one.one h) more)
-      ∙ sym (append_assoc one.drawn two.drawn (strokes_in (left ++ more)));
+  strokes = λ h later more.
+      ap (λ g. strokes_in page g (typed_before ++ ((a ++ b) ++ more))) (append_assoc one.given two.given later)
+      ∙ ap (λ t. strokes_in page (one.given ++ (two.given ++ later)) (typed_before ++ t)) (append_assoc a b more)
+      ∙ one.strokes h (two.given ++ later) (b ++ more)
+      ∙ ap (λ t. one.drawn ++ t) (two.strokes (one.one h) later more)
+      ∙ sym (append_assoc one.drawn two.drawn (strokes_in turned later (left ++ more)));
   one = λ h. two.one (one.one h);
-  sent = sent_more one.drawn two.drawn old mid new one.sent two.sent;
+  sent = sent_more one.drawn two.drawn old.pen mid.pen new.pen one.sent two.sent;
+  heard = hears_on 0 one.given two.given old.control mid.control new.control one.heard two.heard;
 }
 
-pub draws_more : (bytes : List ℕ) (i byte : ℕ) (typed_before : List ℕ) (old : PenView) (begun : List ℕ) (mid : PenView) (left : List ℕ) (new : PenView) → i < length bytes → byte ≡ get_or bytes i 0
-    → DrawsTyped (take i bytes) typed_before old begun mid → DrawsTyped (byte ∷ []) begun mid left new → DrawsTyped (take (i + 1) bytes) typed_before old left new
-draws_more bytes i byte typed_before old begun mid left new few is one two =
-    subst (λ done. DrawsTyped done typed_before old left new) (ap (λ b. take i bytes ++ b ∷ []) is ∙ sym (take_more bytes i 0 few)) (draws_on (take i bytes) (byte ∷ []) typed_before old begun mid left new one two)
+pub draws_more : (bytes : List ℕ) (i byte : ℕ) (page : Page) (typed_before : List ℕ) (old : TypistView) (between : Page) (begun : List ℕ) (mid : TypistView) (turned : Page) (left : List ℕ) (new : TypistView) → i < length bytes → byte ≡ get_or bytes i 0
+    → DrawsTyped (take i bytes) page typed_before old between begun mid → DrawsTyped (byte ∷ []) between begun mid turned left new → DrawsTyped (take (i + 1) bytes) page typed_before old turned left new
+draws_more bytes i byte page typed_before old between begun mid turned left new few is one two =
+    subst (λ done. DrawsTyped done page typed_before old turned left new) (ap (λ b. take i bytes ++ b ∷ []) is ∙ sym (take_more bytes i 0 few)) (draws_on (take i bytes) (byte ∷ []) page typed_before old between begun mid turned left new one two)
 
--- some of these bytes, where the producer stays as it is then
-pub draws_some : (bytes : List ℕ) (i : ℕ) (typed_before : List ℕ) (old : PenView) (begun : List ℕ) (mid new : PenView) → DrawsTyped (take i bytes) typed_before old begun mid → new ≡ mid → DrawsSome bytes typed_before old new
-draws_some bytes i typed_before old begun mid new h is = record {
+-- some of these bytes, and nothing more
+pub draws_some : (bytes : List ℕ) (i : ℕ) (page : Page) (typed_before : List ℕ) (old : TypistView) (turned : Page) (begun : List ℕ) (mid new : TypistView) → DrawsTyped (take i bytes) page typed_before old turned begun mid → Ends mid new → DrawsSome bytes page typed_before old new
+draws_some bytes i page typed_before old turned begun mid new h ends = record {
   done = take i bytes;
   rest = drop i bytes;
   split = sym (take-append-drop i bytes);
+  turned = turned;
   begun = begun;
-  draws = subst (λ p. DrawsTyped (take i bytes) typed_before old begun p) (sym is) h;
+  between = mid;
+  draws = h;
+  ends = ends;
 }
 
-pub draws_all : (bytes : List ℕ) (i : ℕ) (typed_before : List ℕ) (old : PenView) (begun : List ℕ) (new : PenView) → length bytes ≤ i → DrawsTyped (take i bytes) typed_before old begun new → DrawsTyped bytes typed_before old begun new
-draws_all bytes i typed_before old begun new all h = subst (λ done. DrawsTyped done typed_before old begun new) (take_all i bytes all) h
+pub draws_all : (bytes : List ℕ) (i : ℕ) (page : Page) (typed_before : List ℕ) (old : TypistView) (turned : Page) (begun : List ℕ) (new : TypistView) → length bytes ≤ i → DrawsTyped (take i bytes) page typed_before old turned begun new
+    → DrawsTyped bytes page typed_before old turned begun new
+draws_all bytes i page typed_before old turned begun new all h = subst (λ done. DrawsTyped done page typed_before old turned begun new) (take_all i bytes all) h
 
 -- A TEXT THAT IS READ
 
 -- the last line, which lacks its end
-pub draws_last : (l : LineContent) (typed : Typed) (old new : PenView) → l.kept ≢ [] → typed ≡ typed_of l → PenSent (bodies_in typed) old new → DrawsLast l.kept old new
-draws_last l typed old new some is sent = record {
-  drawn = bodies_in (typed_of l);
-  strokes = λ h. last l.kept refl h;
-  sent = subst (λ t. PenSent (bodies_in t) old new) is sent;
+draws_last : (l : LineContent) (typed : Typed) (old : TypistView) (turned : Page) (new : TypistView) → l.kept ≢ [] → typed ≡ typed_of l → Does typed l.page old turned new → DrawsLast l.page l.kept old new
+draws_last l typed old turned new some is does = record {
+  given = d.given;
+  drawn = drawn_at l.page (typed_of l);
+  strokes = λ h later. last l.kept refl h later;
+  sent = d.sent;
+  heard = d.heard;
 }
   where
-    last : (typed_before : List ℕ) → l.kept ≡ typed_before → HasNoEnd l.kept → strokes_in (l.kept ++ []) ≡ bodies_in (typed_of l)
-    last [] none h = absurd (some none)
-    last (c ∷ cs) is h =
+    d : Does (typed_of l) l.page old turned new
+    d = subst (λ t. Does t l.page old turned new) is does
+
+    last : (typed_before : List ℕ) → l.kept ≡ typed_before → HasNoEnd l.kept → (later : Answers) → strokes_in l.page (d.given ++ later) (l.kept ++ []) ≡ drawn_at l.page (typed_of l)
+    last [] none h later = absurd (some none)
+    last (c ∷ cs) is h later =
         let here : lines_of (l.kept ++ []) ≡ l.kept ∷ [] = rw is (lines_behind c cs [] (subst HasNoEnd is h)) in
-        ap short_lines here ∙ first_strokes l [] ∙ append-nil (bodies_in (typed_of l))
+        ap (strokes_by (Some (at l.page (d.given ++ later)))) here
+        ∙ first_strokes (at l.page (d.given ++ later)) l []
+        ∙ ap (λ place. drawn_at l.page (typed_of l) ++ strokes_by place []) (d.turns later)
+        ∙ append-nil (drawn_at l.page (typed_of l))
 
-pub draws_no_last : (typed_before : List ℕ) (pen : PenView) → typed_before ≡ [] → DrawsLast typed_before pen pen
-draws_no_last typed_before pen none = record { drawn = []; strokes = λ h. ap (λ f. strokes_in (f ++ [])) none; sent = sent_none pen }
+-- the same, as the line is taken
+pub draws_last_line : (l after : LineContent) (typed : Typed) (page : Page) (old : TypistView) (turned : Page) (new : TypistView) → l.kept ≢ [] → typed ≡ typed_of l → after ≡ line_after l → page ≡ after.page → Does typed page old turned new → DrawsLast l.page l.kept old new
+draws_last_line l after typed page old turned new some is next page_is does = draws_last l typed old turned new some is (subst (λ p. Does typed p old turned new) (page_is ∙ ap (λ (x : LineContent). x.page) next) does)
 
-pub reads_none : (known : Option (List ℕ)) (pen : PenView) → ReadsOf known known [] pen pen
-reads_none None pen = tt
-reads_none (Some text) pen = record { rest = text; left_is = refl; drawn = []; strokes = refl; one = tt; sent = sent_none pen }
+pub draws_no_last : (page : Page) (typed_before : List ℕ) (t : TypistView) → typed_before ≡ [] → DrawsLast page typed_before t t
+draws_no_last page typed_before t none = record { given = []; drawn = []; strokes = λ h later. ap (λ f. strokes_in page later (f ++ [])) none; sent = sent_none t.pen; heard = hears_none t.control }
+
+pub reads_none : (known : Option (List ℕ)) (t : TypistView) → ReadsOf known known first_page [] t t
+reads_none None t = tt
+reads_none (Some text) t = record { rest = text; left_is = refl; given = []; drawn = []; strokes = λ later. refl; one = tt; sent = sent_none t.pen; heard = hears_none t.control }
 
 -- nothing is drawn yet
-pub prefix_none : (known : Option (List ℕ)) (pen : PenView) → PenSentPrefixOf known pen pen
-prefix_none None pen = tt
-prefix_none (Some text) pen = (strokes_in text, record { sent = []; split = refl; is = sent_none pen })
+pub prefix_none : (known : Option (List ℕ)) (t : TypistView) → SentPrefixOf known t t
+prefix_none None t = tt
+prefix_none (Some text) t = ([], strokes_in first_page [] text, record { drawn = []; split = refl; sent = sent_none t.pen; heard = hears_so [] t.control t.control (hears_none t.control) })
 
--- THE PEN
+-- what was drawn stays so
+pub prefix_stays : (known : Option (List ℕ)) (old mid new : TypistView) → SentPrefixOf known old mid → Stays mid new → SentPrefixOf known old new
+prefix_stays None old mid new h k = tt
+prefix_stays (Some text) old mid new (answers, left, h) k = (
+  answers,
+  left,
+  record {
+    drawn = h.drawn;
+    split = h.split;
+    sent = k.pen ∙ h.sent;
+    heard = hears_first 1 answers old.control mid.control new.control h.heard k.heard;
+  },
+)
 
-pub same_none : (pen : PenView) → SamePen pen pen
-same_none pen = record { is = refl }
+-- WHO DRAWS
 
-pub same_still : (old mid new : PenView) → SamePen old mid → new ≡ mid → SamePen old new
-same_still old mid new h is = subst (SamePen old) (sym is) h
+pub same_none : (t : TypistView) → SameTypist t t
+same_none t = record { pen = record { is = refl }; control = record { is = refl } }
 
-same_sent : (bodies : List (List ℕ)) (old mid new : PenView) → SamePen old mid → PenSent bodies mid new → SamePen old new
-same_sent bodies old mid new h sent =
-    let more : List Stroke = mid.sent ++ map (stroke_of mid.number) bodies in
-    record { is = sent ∙ ap (λ (p : PenView). record p { sent = more }) h.is ∙ ap (λ s. record old { sent = s }) (sym (ap (λ (p : PenView). p.sent) sent)) }
+control_heard : (n : ℕ) (some : Answers) (old mid new : ControlView) → SameControl old mid → HearsBut n some mid new → SameControl old new
+control_heard n some old mid new h heard =
+    let commanded : List PageCommand = mid.commanded ++ heard.sent in
+    let answers : Answers = mid.answers ++ heard.took in
+    let waiting : ℕ = new.waiting in
+    let over : new ≡ record old { commanded = commanded; answers = answers; waiting = waiting } = heard.is ∙ ap (λ (c : ControlView). record c { commanded = commanded; answers = answers; waiting = waiting }) h.is in
+    record { is = subst (λ (n : ControlView). n ≡ record old { commanded = n.commanded; answers = n.answers; waiting = n.waiting }) (sym over) refl }
 
-pub same_typed : (bytes typed_before : List ℕ) (old mid : PenView) (begun : List ℕ) (new : PenView) → SamePen old mid → DrawsTyped bytes typed_before mid begun new → SamePen old new
-same_typed bytes typed_before old mid begun new h draws = same_sent draws.drawn old mid new h draws.sent
+same_sent : (n : ℕ) (drawn : List Drawn) (some : Answers) (old mid new : TypistView) → SameTypist old mid → PenSent drawn mid.pen new.pen → HearsBut n some mid.control new.control → SameTypist old new
+same_sent n drawn some old mid new h sent heard =
+    let more : List AStroke = mid.pen.sent ++ map (pen_stroke mid.pen.number) drawn in
+    record {
+      pen = record { is = sent ∙ ap (λ (p : PenView). record p { sent = more }) h.pen.is ∙ ap (λ s. record old.pen { sent = s }) (sym (ap (λ (p : PenView). p.sent) sent)) };
+      control = control_heard n some old.control mid.control new.control h.control heard;
+    }
 
-pub same_some : (bytes typed_before : List ℕ) (old mid new : PenView) → SamePen old mid → DrawsSome bytes typed_before mid new → SamePen old new
-same_some bytes typed_before old mid new h some = same_sent some.draws.drawn old mid new h some.draws.sent
+pub same_stays : (old mid new : TypistView) → SameTypist old mid → Stays mid new → SameTypist old new
+same_stays old mid new h k = same_sent 0 [] [] old mid new h (sent_still mid.pen new.pen k.pen) k.heard
+
+pub same_ends : (old mid new : TypistView) → SameTypist old mid → Ends mid new → SameTypist old new
+same_ends old mid new h k = same_sent 1 [] [] old mid new h (sent_still mid.pen new.pen k.pen) k.heard
+
+pub same_typed : (bytes : List ℕ) (page : Page) (typed_before : List ℕ) (old mid : TypistView) (turned : Page) (begun : List ℕ) (new : TypistView) → SameTypist old mid → DrawsTyped bytes page typed_before mid turned begun new → SameTypist old new
+same_typed bytes page typed_before old mid turned begun new h draws = same_sent 0 draws.drawn draws.given old mid new h draws.sent draws.heard
+
+pub same_some : (bytes : List ℕ) (page : Page) (typed_before : List ℕ) (old mid new : TypistView) → SameTypist old mid → DrawsSome bytes page typed_before mid new → SameTypist old new
+same_some bytes page typed_before old mid new h some = same_ends old some.between new (same_typed some.done page typed_before old mid some.turned some.begun some.between h some.draws) some.ends
 
 -- of the last line
-pub same_last : {T E : Type 0} (r : Result T E) (typed_before : List ℕ) (old mid new : PenView) → SamePen old mid → OnOk r (DrawsLast typed_before mid new) → OnErr r (new ≡ mid) → SamePen old new
-same_last (Ok _) typed_before old mid new h last cut = same_sent last.drawn old mid new h last.sent
-same_last (Err _) typed_before old mid new h last cut = same_still old mid new h cut
+pub same_last : {T E : Type 0} (r : Result T E) (page : Page) (typed_before : List ℕ) (old mid new : TypistView) → SameTypist old mid → OnOk r (DrawsLast page typed_before mid new) → OnErr r (Ends mid new) → SameTypist old new
+same_last (Ok _) page typed_before old mid new h last cut = same_sent 0 last.drawn last.given old mid new h last.sent last.heard
+same_last (Err _) page typed_before old mid new h last cut = same_ends old mid new h cut
 
 rest_is : (left after : Option (List ℕ)) (bytes rest : List ℕ) → left ≡ Some rest → Consumes left after bytes → (ys : List ℕ) × (after ≡ Some ys) × (rest ≡ bytes ++ ys)
 rest_is None after bytes rest is took = absurd cc
@@ -198,38 +370,82 @@ rest_is (Some xs) (Some ys) bytes rest is took =
     let same : xs ≡ rest = cc in
     (ys, refl, sym same ∙ took)
 
-reads_more : (known left after : Option (List ℕ)) (bytes begun : List ℕ) (old mid : PenView) (next : List ℕ) (new : PenView) → ReadsOf known left begun old mid → Consumes left after bytes → DrawsTyped bytes begun mid next new
-    → ReadsOf known after next old new
-reads_more None left after bytes begun old mid next new h took draws = tt
-reads_more (Some text) left after bytes begun old mid next new h took draws =
+reads_more : (known left after : Option (List ℕ)) (bytes : List ℕ) (page : Page) (begun : List ℕ) (old mid : TypistView) (turned : Page) (next : List ℕ) (new : TypistView) → ReadsOf known left page begun old mid → Consumes left after bytes
+    → DrawsTyped bytes page begun mid turned next new → ReadsOf known after turned next old new
+reads_more None left after bytes page begun old mid turned next new h took draws = tt
+reads_more (Some text) left after bytes page begun old mid turned next new h took draws =
     let r = rest_is left after bytes h.rest h.left_is took in
     record {
       rest = r.0;
       left_is = r.1;
+      given = h.given ++ draws.given;
       drawn = h.drawn ++ draws.drawn;
-      strokes = h.strokes ∙ ap (λ t. h.drawn ++ strokes_in (begun ++ t)) r.2 ∙ ap (λ t. h.drawn ++ t) (draws.strokes h.one r.0) ∙ sym (append_assoc h.drawn draws.drawn (strokes_in (next ++ r.0)));
+      strokes = λ later.
+          ap (λ g. strokes_in first_page g text) (append_assoc h.given draws.given later)
+          ∙ h.strokes (draws.given ++ later)
+          ∙ ap (λ t. h.drawn ++ strokes_in page (draws.given ++ later) (begun ++ t)) r.2
+          ∙ ap (λ t. h.drawn ++ t) (draws.strokes h.one later r.0)
+          ∙ sym (append_assoc h.drawn draws.drawn (strokes_in turned later (next ++ r.0)));
       one = draws.one h.one;
-      sent = sent_more h.drawn draws.drawn old mid new h.sent draws.sent;
+      sent = sent_more h.drawn draws.drawn old.pen mid.pen new.pen h.sent draws.sent;
+      heard = hears_on 0 h.given draws.given old.control mid.control new.control h.heard draws.heard;
     }
 
--- reading ended, and the producer stays as it is
-pub reads_cut : (known left : Option (List ℕ)) (begun : List ℕ) (old mid new : PenView) → ReadsOf known left begun old mid → new ≡ mid → PenSentPrefixOf known old new
-reads_cut None left begun old mid new h is = tt
-reads_cut (Some text) left begun old mid new h is = (strokes_in (begun ++ h.rest), record { sent = h.drawn; split = h.strokes; is = is ∙ h.sent })
+kept_is : (left after : Option (List ℕ)) (rest : List ℕ) → left ≡ Some rest → Keeps left after → after ≡ Some rest
+kept_is None after rest is kept = absurd cc
+kept_is (Some xs) None rest is kept = absurd kept
+kept_is (Some xs) (Some ys) rest is kept = ap Some kept ∙ is
+
+-- nothing was there to read
+reads_then_stays : (known left after : Option (List ℕ)) (page : Page) (begun : List ℕ) (old mid new : TypistView) → ReadsOf known left page begun old mid → Keeps left after → Stays mid new → ReadsOf known after page begun old new
+reads_then_stays None left after page begun old mid new h kept k = tt
+reads_then_stays (Some text) left after page begun old mid new h kept k = record {
+  rest = h.rest;
+  left_is = kept_is left after h.rest h.left_is kept;
+  given = h.given;
+  drawn = h.drawn;
+  strokes = h.strokes;
+  one = h.one;
+  sent = k.pen ∙ h.sent;
+  heard = hears_first 0 h.given old.control mid.control new.control h.heard k.heard;
+}
+
+-- reading ended, and nothing more was drawn
+pub reads_cut : (known left : Option (List ℕ)) (page : Page) (begun : List ℕ) (old mid new : TypistView) → ReadsOf known left page begun old mid → Ends mid new → SentPrefixOf known old new
+reads_cut None left page begun old mid new h k = tt
+reads_cut (Some text) left page begun old mid new h k = (
+  h.given ++ [],
+  strokes_in page [] (begun ++ h.rest),
+  record {
+    drawn = h.drawn;
+    split = h.strokes [];
+    sent = k.pen ∙ h.sent;
+    heard = hears_on 1 h.given [] old.control mid.control new.control h.heard k.heard;
+  },
+)
+
+pub reads_end : (known left : Option (List ℕ)) (page : Page) (begun : List ℕ) (old new : TypistView) → ReadsOf known left page begun old new → SentPrefixOf known old new
+reads_end known left page begun old new h = reads_cut known left page begun old new new h (ends_none new)
 
 -- it ended within these bytes
-reads_some : (known left after : Option (List ℕ)) (bytes begun : List ℕ) (old mid new : PenView) → ReadsOf known left begun old mid → Consumes left after bytes → DrawsSome bytes begun mid new → PenSentPrefixOf known old new
-reads_some None left after bytes begun old mid new h took draws = tt
-reads_some (Some text) left after bytes begun old mid new h took some =
+reads_some : (known left after : Option (List ℕ)) (bytes : List ℕ) (page : Page) (begun : List ℕ) (old mid new : TypistView) → ReadsOf known left page begun old mid → Consumes left after bytes → DrawsSome bytes page begun mid new → SentPrefixOf known old new
+reads_some None left after bytes page begun old mid new h took draws = tt
+reads_some (Some text) left after bytes page begun old mid new h took some =
     let r = rest_is left after bytes h.rest h.left_is took in
     let draws = some.draws in
     let all : h.rest ≡ some.done ++ (some.rest ++ r.0) = r.2 ∙ ap (λ t. t ++ r.0) some.split ∙ append_assoc some.done some.rest r.0 in
-    let behind : List (List ℕ) = strokes_in (some.begun ++ (some.rest ++ r.0)) in (
+    let behind : List Drawn = strokes_in some.turned [] (some.begun ++ (some.rest ++ r.0)) in (
+      h.given ++ (draws.given ++ []),
       behind,
       record {
-        sent = h.drawn ++ draws.drawn;
-        split = h.strokes ∙ ap (λ t. h.drawn ++ strokes_in (begun ++ t)) all ∙ ap (λ t. h.drawn ++ t) (draws.strokes h.one (some.rest ++ r.0)) ∙ sym (append_assoc h.drawn draws.drawn behind);
-        is = sent_more h.drawn draws.drawn old mid new h.sent draws.sent;
+        drawn = h.drawn ++ draws.drawn;
+        split =
+            h.strokes (draws.given ++ [])
+            ∙ ap (λ t. h.drawn ++ strokes_in page (draws.given ++ []) (begun ++ t)) all
+            ∙ ap (λ t. h.drawn ++ t) (draws.strokes h.one [] (some.rest ++ r.0))
+            ∙ sym (append_assoc h.drawn draws.drawn behind);
+        sent = some.ends.pen ∙ sent_more h.drawn draws.drawn old.pen mid.pen some.between.pen h.sent draws.sent;
+        heard = hears_on 1 h.given (draws.given ++ []) old.control mid.control new.control h.heard (hears_on 1 draws.given [] mid.control some.between.control new.control draws.heard some.ends.heard);
       },
     )
 
@@ -240,19 +456,26 @@ at_end (Some xs) rest is end =
     sym same ∙ end
 
 -- the input ended, and the last line was drawn
-reads_all : (known left : Option (List ℕ)) (begun : List ℕ) (old mid new : PenView) → ReadsOf known left begun old mid → IsAtEnd left → DrawsLast begun mid new → PenSentAllOf known old new
-reads_all None left begun old mid new h end last = tt
-reads_all (Some text) left begun old mid new h end last =
-    let none : h.rest ≡ [] = at_end left h.rest h.left_is end in
-    record {
-      sent = h.drawn ++ last.drawn;
-      split = h.strokes ∙ ap (λ t. h.drawn ++ strokes_in (begun ++ t)) none ∙ ap (λ t. h.drawn ++ t) (last.strokes h.one) ∙ sym (append-nil (h.drawn ++ last.drawn));
-      is = sent_more h.drawn last.drawn old mid new h.sent last.sent;
-    }
+reads_all : (known left : Option (List ℕ)) (page : Page) (begun : List ℕ) (old mid new : TypistView) → ReadsOf known left page begun old mid → IsAtEnd left → DrawsLast page begun mid new → SentAllOf known old new
+reads_all None left page begun old mid new h end last = tt
+reads_all (Some text) left page begun old mid new h end last =
+    let none : h.rest ≡ [] = at_end left h.rest h.left_is end in (
+      h.given ++ (last.given ++ []),
+      record {
+        drawn = h.drawn ++ last.drawn;
+        split =
+            h.strokes (last.given ++ [])
+            ∙ ap (λ t. h.drawn ++ strokes_in page (last.given ++ []) (begun ++ t)) none
+            ∙ ap (λ t. h.drawn ++ t) (last.strokes h.one [])
+            ∙ sym (append-nil (h.drawn ++ last.drawn));
+        sent = sent_more h.drawn last.drawn old.pen mid.pen new.pen h.sent last.sent;
+        heard = hears_on 1 h.given (last.given ++ []) old.control mid.control new.control h.heard (hears_on 1 last.given [] mid.control new.control new.control last.heard (hears_so [] new.control new.control (hears_none new.control)));
+      },
+    )
 
-prefix_of_all : (known : Option (List ℕ)) (old new : PenView) → PenSentAllOf known old new → PenSentPrefixOf known old new
+prefix_of_all : (known : Option (List ℕ)) (old new : TypistView) → SentAllOf known old new → SentPrefixOf known old new
 prefix_of_all None old new h = tt
-prefix_of_all (Some text) old new h = ([], h)
+prefix_of_all (Some text) old new h = (h.0, [], h.1)
 
 -- A READ
 
@@ -263,32 +486,39 @@ Took some buffer left after = MatchOption some (Keeps left after) (λ n. Consume
 took_bytes : (some : Option ℕ) (n : ℕ) (buffer : List ℕ) (left after : Option (List ℕ)) → Took some buffer left after → some ≡ Some n → Consumes left after (take n buffer)
 took_bytes some n buffer left after took is = subst (λ o. Took o buffer left after) is took
 
+kept_bytes : (some : Option ℕ) (buffer : List ℕ) (left after : Option (List ℕ)) → Took some buffer left after → some ≡ None → Keeps left after
+kept_bytes some buffer left after took is = subst (λ o. Took o buffer left after) is took
+
+-- nothing was there
+pub read_none : (known left after : Option (List ℕ)) (some : Option ℕ) (buffer : List ℕ) (page : Page) (begun : List ℕ) (old mid new : TypistView) → ReadsOf known left page begun old mid → Took some buffer left after → some ≡ None → Stays mid new → ReadsOf known after page begun old new
+read_none known left after some buffer page begun old mid new h took is stays = reads_then_stays known left after page begun old mid new h (kept_bytes some buffer left after took is) stays
+
 -- so many bytes were read, and drawn
-pub read_drawn : (known left after : Option (List ℕ)) (some : Option ℕ) (n : ℕ) (buffer begun : List ℕ) (old mid : PenView) (next : List ℕ) (new : PenView) → ReadsOf known left begun old mid → Took some buffer left after → some ≡ Some n
-    → DrawsTyped (take n buffer) begun mid next new → ReadsOf known after next old new
-read_drawn known left after some n buffer begun old mid next new h took is draws = reads_more known left after (take n buffer) begun old mid next new h (took_bytes some n buffer left after took is) draws
+pub read_drawn : (known left after : Option (List ℕ)) (some : Option ℕ) (n : ℕ) (buffer : List ℕ) (page : Page) (begun : List ℕ) (old mid : TypistView) (turned : Page) (next : List ℕ) (new : TypistView) → ReadsOf known left page begun old mid → Took some buffer left after
+    → some ≡ Some n → DrawsTyped (take n buffer) page begun mid turned next new → ReadsOf known after turned next old new
+read_drawn known left after some n buffer page begun old mid turned next new h took is draws = reads_more known left after (take n buffer) page begun old mid turned next new h (took_bytes some n buffer left after took is) draws
 
 -- so many were read, and some of them drawn
-pub read_cut : (known left after : Option (List ℕ)) (some : Option ℕ) (n : ℕ) (buffer begun : List ℕ) (old mid new : PenView) → ReadsOf known left begun old mid → Took some buffer left after → some ≡ Some n
-    → DrawsSome (take n buffer) begun mid new → PenSentPrefixOf known old new
-read_cut known left after some n buffer begun old mid new h took is draws = reads_some known left after (take n buffer) begun old mid new h (took_bytes some n buffer left after took is) draws
+pub read_cut : (known left after : Option (List ℕ)) (some : Option ℕ) (n : ℕ) (buffer : List ℕ) (page : Page) (begun : List ℕ) (old mid new : TypistView) → ReadsOf known left page begun old mid → Took some buffer left after → some ≡ Some n
+    → DrawsSome (take n buffer) page begun mid new → SentPrefixOf known old new
+read_cut known left after some n buffer page begun old mid new h took is draws = reads_some known left after (take n buffer) page begun old mid new h (took_bytes some n buffer left after took is) draws
 
-ended_known : (known left after : Option (List ℕ)) (some : Option ℕ) (buffer begun : List ℕ) (old mid : PenView) → ReadsOf known left begun old mid → Took some buffer left after → some ≡ Some 0 → ReadsOf known after begun old mid
-ended_known known left after some buffer begun old mid h took is = reads_more known left after [] begun old mid begun mid h (took_bytes some 0 buffer left after took is) (draws_none begun mid)
+ended_known : (known left after : Option (List ℕ)) (some : Option ℕ) (buffer : List ℕ) (page : Page) (begun : List ℕ) (old mid : TypistView) → ReadsOf known left page begun old mid → Took some buffer left after → some ≡ Some 0 → ReadsOf known after page begun old mid
+ended_known known left after some buffer page begun old mid h took is = reads_more known left after [] page begun old mid page begun mid h (took_bytes some 0 buffer left after took is) (draws_none page begun mid)
 
 -- the input ended, and the last line was drawn or not
-pub read_last : {T E : Type 0} (r : Result T E) (known left after : Option (List ℕ)) (some : Option ℕ) (buffer begun : List ℕ) (old mid new : PenView) → ReadsOf known left begun old mid → Took some buffer left after → some ≡ Some 0
-    → IfSome some (λ n. n ≡ 0 → IsAtEnd after) → OnOk r (DrawsLast begun mid new) → OnErr r (new ≡ mid) → OnOk r (PenSentAllOf known old new) × PenSentPrefixOf known old new
-read_last r known left after some buffer begun old mid new h took is end last cut = go r last cut
+pub read_last : {T E : Type 0} (r : Result T E) (known left after : Option (List ℕ)) (some : Option ℕ) (buffer : List ℕ) (page : Page) (begun : List ℕ) (old mid new : TypistView) → ReadsOf known left page begun old mid → Took some buffer left after → some ≡ Some 0
+    → IfSome some (λ n. n ≡ 0 → IsAtEnd after) → OnOk r (DrawsLast page begun mid new) → OnErr r (Ends mid new) → OnOk r (SentAllOf known old new) × SentPrefixOf known old new
+read_last r known left after some buffer page begun old mid new h took is end last cut = go r last cut
   where
-    here : ReadsOf known after begun old mid
-    here = ended_known known left after some buffer begun old mid h took is
+    here : ReadsOf known after page begun old mid
+    here = ended_known known left after some buffer page begun old mid h took is
 
     none : IsAtEnd after
     none = (subst (λ o. IfSome o (λ n. n ≡ 0 → IsAtEnd after)) is end) refl
 
-    go : {X Y : Type 0} (r : Result X Y) → OnOk r (DrawsLast begun mid new) → OnErr r (new ≡ mid) → OnOk r (PenSentAllOf known old new) × PenSentPrefixOf known old new
+    go : {X Y : Type 0} (r : Result X Y) → OnOk r (DrawsLast page begun mid new) → OnErr r (Ends mid new) → OnOk r (SentAllOf known old new) × SentPrefixOf known old new
     go (Ok _) last cut =
-        let all = reads_all known after begun old mid new here none last in
+        let all = reads_all known after page begun old mid new here none last in
         (all, prefix_of_all known old new all)
-    go (Err _) last cut = (tt, reads_cut known after begun old mid new here cut)
+    go (Err _) last cut = (tt, reads_cut known after page begun old mid new here cut)

@@ -1,3 +1,4 @@
+pub mod Asking
 pub mod Commands
 pub mod Earlier
 pub mod Examples

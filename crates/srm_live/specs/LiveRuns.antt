@@ -1,30 +1,51 @@
 -- What a whole run of a live member comes to.
-use Rattle.std.specs.Prelude.{◌≡◌, ℕ, ◌<◌, List, [], ◌∷◌, map, Option, IfSome}
+use Rattle.std.specs.Prelude.{◌≡◌, ℕ, ◌+◌, ◌<◌, ◌≤◌, List, [], ◌∷◌, map, Option, IfSome}
 use Rattle.srm_names.specs.declared.limits.TheConstants.{PENS}
 use Rattle.srm_names.specs.declared.page_msg.PageMsg.{PageMsg}
+use Rattle.srm_names.specs.Names.{first_page}
 use Rattle.srm_names.specs.Histories.{IsPrefix}
 use Rattle.srm_pages.specs.declared.stroke.Stroke.{Stroke}
 use Rattle.srm_pages.specs.Ends.{PenView}
 use Rattle.srm_pages.specs.Ink.{strokes_of}
+use Rattle.srm_control.specs.Ends.{ControlView, CommandsView}
 use Rattle.srm_node.specs.Calls.{Calls}
 use Rattle.srm_node.specs.Nodes.{NodeView}
-use Rattle.srm_member.specs.Strokes.{stroke_of}
 use Rattle.srm_member.specs.WholeRuns.{IsWholeHost}
-use Rattle.srm_live.specs.Typing.{strokes_in, SamePen, PenSentPrefixOf}
+use Rattle.srm_live.specs.Asking.{Answers, AreAmong, begins, begins_in, taken_by, answered_by}
+use Rattle.srm_live.specs.Typing.{TypistView, pen_stroke, strokes_in, SameTypist, SentPrefixOf}
 
--- Of these producers, which are done, the first sent a prefix of what is typed in an input, if that is known, and the others are as they were.
-pub record HaveTyped (known : Option (List ℕ)) (pens : List PenView) (first : PenView) (others : List PenView) : Type 0 where
+abbrev pub typist : PenView → ControlView → TypistView
+typist pen control = record { pen = pen; control = control }
+
+-- Of these producers, which are done, the first sent a prefix of what is typed in an input, if that is known, and the others are as they were. This became of the control.
+pub record HaveTyped (known : Option (List ℕ)) (pens : List PenView) (control : ControlView) (first : PenView) (others : List PenView) (last : ControlView) : Type 0 where
   pub pen : PenView
   pub pens_are : pens ≡ pen ∷ others
-  pub same : SamePen pen first
-  pub sent : PenSentPrefixOf known pen first
+  pub same : SameTypist (typist pen control) (typist first last)
+  pub sent : SentPrefixOf known (typist pen control) (typist first last)
 
--- Of an input that is known, the strokes received of the first producer are a prefix of what was typed, line by line in order. None were received of the others.
-pub record ReceivesTyped (known : Option (List ℕ)) (received : List Stroke) : Type 0 where
-  pub typed : IfSome known (λ text. IsPrefix (strokes_of 0 received) (map (stroke_of 0) (strokes_in text)))
+-- a control and the node's end of one are on the same two lines
+abbrev pub AreOnLines : Option CommandsView → ControlView → Type 0
+AreOnLines commands control = IfSome commands (λ c. (control.out ≡ c.out) × (control.back ≡ c.back))
+
+-- what the node took are the first of a control's commands, and what the control took are the first of the node's answers
+abbrev pub AreFirstOf : Option CommandsView → ControlView → Type 0
+AreFirstOf commands control = IfSome commands (λ c. IsPrefix c.taken control.commanded × IsPrefix control.answers c.answered)
+
+-- By answers of the node, each once and in order, the strokes received are a prefix of what was typed, each on the page where who types stood by then. The node was asked to
+-- begin no page but those of these answers, and one whose answer didn't come.
+pub record IsTyped (text : List ℕ) (control : Option CommandsView) (received : List Stroke) : Type 0 where
+  pub answers : Answers
+  pub are_given : AreAmong answers (answered_by control)
+  pub begun : begins (taken_by control) ≤ begins_in answers + 1
+  pub drawn : IsPrefix (strokes_of 0 received) (map (pen_stroke 0) (strokes_in first_page answers text))
+
+-- what was received of the first producer is what was typed, if the input is known, and nothing was received of the others
+pub record ReceivesTyped (known : Option (List ℕ)) (control : Option CommandsView) (received : List Stroke) : Type 0 where
+  pub typed : IfSome known (λ text. IsTyped text control received)
   pub others : (pen : ℕ) → 0 < pen → pen < PENS → strokes_of pen received ≡ []
 
 -- The node ran to its end and its workers took all that its journal gave. The journal's draws are the strokes received, as `keeps` says, and these are what was typed.
 pub record IsWholeLiveRun {X C : Type 0} (calls : Calls X C) (turns : ℕ) (known : Option (List ℕ)) (node : NodeView X C) (took : List (List PageMsg)) : Type 0 where
   pub host : IsWholeHost calls turns node took
-  pub draws : ReceivesTyped known host.last.well.received
+  pub draws : ReceivesTyped known host.last.control host.last.well.received

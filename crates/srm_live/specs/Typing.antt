@@ -1,32 +1,48 @@
 -- Lines as they are typed, and what is drawn of them.
-use Rattle.std.specs.Prelude.{◌≡◌, ◌≢◌, ℕ, nat_lt, List, [], ◌∷◌, ◌++◌, map, length, Option, Some, IfSome, if◌then◌else◌}
+use Rattle.std.specs.Prelude.{◌≡◌, ◌≢◌, ℕ, nat_lt, List, [], ◌∷◌, ◌++◌, map, length, Option, Some, None, IfSome, if◌then◌else◌}
 use Rattle.srm_names.specs.declared.limits.TheConstants.{LONGEST_BODY}
+use Rattle.srm_names.specs.declared.page.Page.{Page}
+use Rattle.srm_names.specs.Names.{first_page}
+use Rattle.srm_pages.specs.declared.stroke.Stroke.{Stroke as AStroke}
 use Rattle.srm_pages.specs.Ends.{PenView}
+use Rattle.srm_control.specs.declared.command.PageCommand.{PageCommand}
+use Rattle.srm_control.specs.Ends.{ControlView}
 use Rattle.srm_live.specs.declared.typed.Typed.{Typed}
 use Rattle.srm_live.specs.declared.typed.Typed.TheVariants.{Stroke, TooLong, Order}
 use Rattle.srm_live.specs.Commands.{said_of}
+use Rattle.srm_live.specs.Asking.{Answers, Place, place_after, place_answered, Hears, HearsLast}
 use Rattle.srm_wire.specs.Wires.{one_more}
 use Rattle.srm_member.specs.Lines.{lines_of}
-use Rattle.srm_member.specs.Strokes.{stroke_of, PenSentAllBut, PenSentPrefix}
+use Rattle.srm_member.specs.Strokes.{stroke_on}
 
--- the bodies that are drawn of a line that ended
-abbrev pub bodies_in : Typed → List (List ℕ)
-bodies_in (Stroke body) = body ∷ []
-bodies_in (TooLong number) = []
-bodies_in (Order command) = []
+-- a page, and a body that is drawn there
+abbrev pub Drawn : Type 0
+Drawn = Page × List ℕ
 
--- what is drawn of lines, in order: of each that is short enough for a body what it says to draw
-abbrev pub short_lines : List (List ℕ) → List (List ℕ)
-short_lines [] = []
-short_lines (l ∷ ls) = if nat_lt LONGEST_BODY (length l) then short_lines ls else bodies_in (said_of l) ++ short_lines ls
+-- the stroke that the producer of this number sends of it
+abbrev pub pen_stroke : ℕ → Drawn → AStroke
+pen_stroke pen d = stroke_on d.0 pen d.1
 
--- the strokes of a text that is drawn as it is typed: its lines in order, without those that are too long or commands
-abbrev pub strokes_in : List ℕ → List (List ℕ)
-strokes_in text = short_lines (lines_of text)
+-- what is drawn of a line that ended, on the page where who types stands
+abbrev pub drawn_at : Page → Typed → List Drawn
+drawn_at page (Stroke body) = (page, body) ∷ []
+drawn_at page (TooLong number) = []
+drawn_at page (Order command) = []
 
--- The line that is being typed: its number, from 1, and what is kept of it, which tells whether it is too long.
+-- What is drawn of lines, in order: of each that isn't too long what it says to draw, where who types stands by then. Behind a command without its answer nothing is drawn.
+abbrev pub strokes_by : Option Place → List (List ℕ) → List Drawn
+strokes_by None ls = []
+strokes_by (Some place) [] = []
+strokes_by (Some place) (l ∷ ls) = if nat_lt LONGEST_BODY (length l) then strokes_by (Some place) ls else drawn_at place.page (said_of l) ++ strokes_by (place_after (said_of l) place) ls
+
+-- the strokes of a text that is drawn as it is typed, by the answers to its commands
+abbrev pub strokes_in : Page → Answers → List ℕ → List Drawn
+strokes_in page answers text = strokes_by (Some (record { page = page; answers = answers })) (lines_of text)
+
+-- The line that is being typed: its number, from 1, the page where who types it stands, and what is kept of it, which tells whether it is too long.
 pub record LineContent : Type 0 where
   pub number : ℕ
+  pub page : Page
   pub kept : List ℕ
 
 -- a line with a byte more; of one that is too long already no more is kept
@@ -37,62 +53,115 @@ with_byte byte l = if nat_lt LONGEST_BODY (length l.kept) then l else record l {
 abbrev pub typed_of : LineContent → Typed
 typed_of l = if nat_lt LONGEST_BODY (length l.kept) then TooLong l.number else said_of l.kept
 
--- the line behind it, of which nothing is typed
+-- the next line, before anything of it is typed
 abbrev pub line_after : LineContent → LineContent
-line_after l = record { number = one_more l.number; kept = [] }
+line_after l = record l { number = one_more l.number; kept = [] }
 
--- the producer sent these bodies more
-abbrev pub PenSent : List (List ℕ) → PenView → PenView → Type 0
-PenSent bodies old new = new ≡ record old { sent = old.sent ++ map (stroke_of old.number) bodies }
+-- who draws what is typed: the producer that sends the strokes, and the control that asks the node for pages
+pub record TypistView : Type 0 where
+  pub pen : PenView
+  pub control : ControlView
+
+-- the producer sent these strokes more
+abbrev pub PenSent : List Drawn → PenView → PenView → Type 0
+PenSent drawn old new = new ≡ record old { sent = old.sent ++ map (pen_stroke old.number) drawn }
+
+-- nothing was drawn and no page begun, but pages may have been shown
+pub record Stays (old new : TypistView) : Type 0 where
+  pub pen : new.pen ≡ old.pen
+  pub heard : Hears [] old.control new.control
+
+-- the same, but for a last command that has no answer yet
+pub record Ends (old new : TypistView) : Type 0 where
+  pub pen : new.pen ≡ old.pen
+  pub heard : HearsLast [] old.control new.control
+
+-- A command was answered by what turns from one page to another, and nothing was drawn.
+pub record Turns (command : PageCommand) (page : Page) (old : TypistView) (turned : Page) (new : TypistView) : Type 0 where
+  pub given : Answers
+  pub turns : (later : Answers) → place_answered command page (given ++ later) ≡ Some (record { page = turned; answers = later })
+  pub pen : new.pen ≡ old.pen
+  pub heard : Hears given old.control new.control
+
+-- Of a line that ended the producer sent what is drawn of it, and who types stands there now: by the answers that came, however many more there are behind them.
+pub record Does (typed : Typed) (page : Page) (old : TypistView) (turned : Page) (new : TypistView) : Type 0 where
+  pub given : Answers
+  pub turns : (later : Answers) → place_after typed (record { page = page; answers = given ++ later }) ≡ Some (record { page = turned; answers = later })
+  pub sent : PenSent (drawn_at page typed) old.pen new.pen
+  pub heard : Hears given old.control new.control
 
 -- the producer is the same, but for what it sent
 pub record SamePen (old new : PenView) : Type 0 where
   pub is : new ≡ record old { sent = new.sent }
+
+-- the control is the same, but for what it sent and took
+pub record SameControl (old new : ControlView) : Type 0 where
+  pub is : new ≡ record old { commanded = new.commanded; answers = new.answers; waiting = new.waiting }
+
+pub record SameTypist (old new : TypistView) : Type 0 where
+  pub pen : SamePen old.pen new.pen
+  pub control : SameControl old.control new.control
 
 -- no byte of these is a line end
 abbrev pub HasNoEnd : List ℕ → Type 0
 HasNoEnd [] = Unit {0}
 HasNoEnd (b ∷ bs) = (b ≢ 10) × HasNoEnd bs
 
--- Behind a line's prefix these bytes were typed. What was drawn are the strokes that ended with them: whatever else is typed, these come first,
+-- Behind a line's prefix these bytes were typed. What was drawn are the strokes that ended with them: whatever else is typed and answered, these come first,
 -- and behind them those of the prefix that is begun now.
-pub record DrawsTyped (bytes typed_before : List ℕ) (old : PenView) (begun : List ℕ) (new : PenView) : Type 0 where
-  pub drawn : List (List ℕ)
-  pub strokes : HasNoEnd typed_before → (more : List ℕ) → strokes_in (typed_before ++ (bytes ++ more)) ≡ drawn ++ strokes_in (begun ++ more)
+pub record DrawsTyped (bytes : List ℕ) (page : Page) (typed_before : List ℕ) (old : TypistView) (turned : Page) (begun : List ℕ) (new : TypistView) : Type 0 where
+  pub given : Answers
+  pub drawn : List Drawn
+  pub strokes : HasNoEnd typed_before → (later : Answers) (more : List ℕ) → strokes_in page (given ++ later) (typed_before ++ (bytes ++ more)) ≡ drawn ++ strokes_in turned later (begun ++ more)
   pub one : HasNoEnd typed_before → HasNoEnd begun
-  pub sent : PenSent drawn old new
+  pub sent : PenSent drawn old.pen new.pen
+  pub heard : Hears given old.control new.control
 
 -- some of these bytes were drawn, from the first on
-pub record DrawsSome (bytes typed_before : List ℕ) (old new : PenView) : Type 0 where
+pub record DrawsSome (bytes : List ℕ) (page : Page) (typed_before : List ℕ) (old new : TypistView) : Type 0 where
   pub done : List ℕ
   pub rest : List ℕ
   pub split : bytes ≡ done ++ rest
+  pub turned : Page
   pub begun : List ℕ
-  pub draws : DrawsTyped done typed_before old begun new
+  pub between : TypistView
+  pub draws : DrawsTyped done page typed_before old turned begun between
+  pub ends : Ends between new
 
 -- Of a text that is known, this is left to be read. What was read was drawn, but for the prefix of a line that is begun.
-pub record Reads (text : List ℕ) (left : Option (List ℕ)) (begun : List ℕ) (old new : PenView) : Type 0 where
+pub record Reads (text : List ℕ) (left : Option (List ℕ)) (page : Page) (begun : List ℕ) (old new : TypistView) : Type 0 where
   pub rest : List ℕ
   pub left_is : left ≡ Some rest
-  pub drawn : List (List ℕ)
-  pub strokes : strokes_in text ≡ drawn ++ strokes_in (begun ++ rest)
+  pub given : Answers
+  pub drawn : List Drawn
+  pub strokes : (later : Answers) → strokes_in first_page (given ++ later) text ≡ drawn ++ strokes_in page later (begun ++ rest)
   pub one : HasNoEnd begun
-  pub sent : PenSent drawn old new
+  pub sent : PenSent drawn old.pen new.pen
+  pub heard : Hears given old.control new.control
 
 -- the last line of a text, which lacks its end, was drawn
-pub record DrawsLast (typed_before : List ℕ) (old new : PenView) : Type 0 where
-  pub drawn : List (List ℕ)
-  pub strokes : HasNoEnd typed_before → strokes_in (typed_before ++ []) ≡ drawn
-  pub sent : PenSent drawn old new
+pub record DrawsLast (page : Page) (typed_before : List ℕ) (old new : TypistView) : Type 0 where
+  pub given : Answers
+  pub drawn : List Drawn
+  pub strokes : HasNoEnd typed_before → (later : Answers) → strokes_in page (given ++ later) (typed_before ++ []) ≡ drawn
+  pub sent : PenSent drawn old.pen new.pen
+  pub heard : Hears given old.control new.control
 
 -- the same of what may be known of a text
-abbrev pub ReadsOf : (known left : Option (List ℕ)) → List ℕ → PenView → PenView → Type 0
-ReadsOf known left begun old new = IfSome known (λ text. Reads text left begun old new)
+abbrev pub ReadsOf : (known left : Option (List ℕ)) → Page → List ℕ → TypistView → TypistView → Type 0
+ReadsOf known left page begun old new = IfSome known (λ text. Reads text left page begun old new)
 
--- of a text that is known the producer sent each stroke, once and in order
-abbrev pub PenSentAllOf : Option (List ℕ) → PenView → PenView → Type 0
-PenSentAllOf known old new = IfSome known (λ text. PenSentAllBut (strokes_in text) [] old new)
+-- By these answers, which came, the producer sent all strokes of a text but those that are left behind them, each once and in order.
+pub record SentAllBut (text : List ℕ) (answers : Answers) (left : List Drawn) (old new : TypistView) : Type 0 where
+  pub drawn : List Drawn
+  pub split : strokes_in first_page answers text ≡ drawn ++ left
+  pub sent : PenSent drawn old.pen new.pen
+  pub heard : HearsLast answers old.control new.control
 
--- of a text that is known the producer sent a prefix of the strokes, each once and in order
-abbrev pub PenSentPrefixOf : Option (List ℕ) → PenView → PenView → Type 0
-PenSentPrefixOf known old new = IfSome known (λ text. PenSentPrefix (strokes_in text) old new)
+-- of a text that is known, the producer sent each stroke, once and in order
+abbrev pub SentAllOf : Option (List ℕ) → TypistView → TypistView → Type 0
+SentAllOf known old new = IfSome known (λ text. (answers : Answers) × SentAllBut text answers [] old new)
+
+-- of a text that is known, the producer sent a prefix of the strokes, each once and in order
+abbrev pub SentPrefixOf : Option (List ℕ) → TypistView → TypistView → Type 0
+SentPrefixOf known old new = IfSome known (λ text. (answers : Answers) × (left : List Drawn) × SentAllBut text answers left old new)

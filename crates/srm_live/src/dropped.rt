@@ -38,7 +38,7 @@ impl Dropped {
     }
 }
 
-/// The text is `CAUSE N` for each cause of which there were some, with commas between.
+/// The text is `CAUSE N` for each cause that isn't at 0, with commas between.
 impl fmt::Display for Dropped {
     fn fmt<W: fmt::Write>(&self, f: &mut fmt::Formatter<W>) -> fmt::Result {
         let mut before = "";

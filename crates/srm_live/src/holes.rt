@@ -1,4 +1,4 @@
-//! Which drawops a member misses, counted by stream.
+//! Which pages have strokes, and which drawops a member misses, counted by stream.
 
 use srm_names::{MEMBERS, Member, Name, PAGE_NUMBERS, PAGES, Page};
 use std::alloc::{AllocError, Global};
@@ -32,7 +32,7 @@ impl Holes {
         Ok(Holes { pages })
     }
 
-    /// Returns the pages on which something was missing, each once.
+    /// Returns the pages that have strokes, as far as the member knows, each once.
     pub fn pages(&self) -> &[PageHoles] {
         self.pages.as_slice()
     }
@@ -46,7 +46,12 @@ impl Holes {
         all
     }
 
-    /// Notes that one drawop more is missing. It isn't counted where drawops of eight other pages were missing before: no member has more pages.
+    /// Notes that a page has strokes. A ninth page isn't noted: no member has more pages.
+    pub fn note_page(&self, page: Page) {
+        let _ = self.slot_of(page);
+    }
+
+    /// Notes that one drawop more is missing. It isn't counted where eight other pages have strokes: no member has more pages.
     pub fn note_missing(&self, name: Name) {
         let stream = name.stream();
         if let Some(slot) = self.slot_of(stream.page) {
@@ -125,13 +130,13 @@ impl PageHoles {
     }
 }
 
-// A page as a number above 0.
-fn code_of(page: Page) -> u64 {
+/// Returns a page as a number above 0.
+pub fn code_of(page: Page) -> u64 {
     u64::from(page.creator.number()) * NUMBERS + u64::from(page.number) + 1
 }
 
-// The page of such a number.
-fn page_of(code: u64) -> Option<Page> {
+/// Returns the page of such a number; `None` for 0.
+pub fn page_of(code: u64) -> Option<Page> {
     let code = code.checked_sub(1)?;
     Some(Page {
         creator: Member::new(u8::try_from(code / NUMBERS).ok()?)?,

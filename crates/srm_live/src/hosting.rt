@@ -4,6 +4,7 @@ ghost use Rattle.std.specs.Prelude.{◌≡◌, List, None, Some, map, vec_len, I
 ghost use Rattle.std.specs.List.{AllByRecursion, list_all, list_any};
 ghost use Rattle.srm_names.specs.declared.limits.TheConstants.{PAGES};
 ghost use Rattle.srm_names.specs.declared.page_msg.PageMsg.{PageMsg as AMessage};
+ghost use Rattle.srm_control.specs.Ends.{new_control, new_commands};
 ghost use Rattle.srm_node.specs.Calls.{calls_of};
 ghost use Rattle.srm_node.specs.Hosting.{AreEndsOfLanes};
 ghost use Rattle.srm_udp.specs.Clocks.{NeverFalls};
@@ -12,17 +13,18 @@ ghost use Rattle.srm_member.specs.Statuses.{fault_of, fault_of_lists, lacks_memo
 ghost use Rattle.srm_member.specs.TakenText.{has_close};
 ghost use Rattle.srm_member.specs.WholeRuns.{TakePrefixes, IsReceivedOf, SawEach};
 ghost use Rattle.srm_live.specs.declared.typing_thread.TypedPens.{TypedPens as ThePens};
-ghost use Rattle.srm_live.specs.LiveRuns.{IsWholeLiveRun};
+ghost use Rattle.srm_live.specs.LiveRuns.{AreOnLines, AreFirstOf, IsWholeLiveRun};
 
 use crate::desk::Desk;
 use crate::lingering::Staying;
+use crate::shown_pages::ShownPages;
 use crate::typing_thread::{TypedPens, join_typing, start_typing};
 use srm_agent::Entry;
+use srm_control::{PageCommands, PageControl, settle_control};
 use srm_member::{MemberFault, Station, host_if, join_pens, settle_lanes};
 use srm_names::PageMsg;
-use srm_node::{Hosted, PageSink, Worked};
+use srm_node::{Hosted, NodeEnds, PageSink, Worked};
 use srm_pages::Feed;
-use srm_pages::ends::Well;
 use srm_script::ScriptFault;
 use srm_wire::Wire;
 use srm_world::Past;
@@ -34,12 +36,14 @@ use std::time;
 
 /// Runs the node in this thread, and its page workers and the producer that draws what is typed in one thread each, until all have ended.
 ///
-/// `turns` is how many turns the node has. Returns why the run wasn't whole; `None` if it was. Then each worker took all that the node's journal gave in its slot, and its sink
-/// saw each of these messages; and the journal's draws are the strokes that are typed in the reader's bytes, in order, or a prefix of them.
+/// `turns` is how many turns the node has, `pages` has the node's control. Returns why the run wasn't whole; `None` if it was. Then each worker took all that the node's
+/// journal gave in its slot, and its sink saw each of these messages; and the journal's draws are the strokes that are typed in the reader's bytes, in order, or a prefix
+/// of them, each on the page where who types stood by the node's answers to their commands.
 pub fn host_live<R, X, P, S, I, O, E>(
     rt: &R,
     alloc: Global,
     station: Station<R, X, P>,
+    pages: ShownPages,
     sinks: Vec<S>,
     reader: I,
     staying: Staying,
@@ -55,6 +59,7 @@ where
     O: Write + Send + Drop + 'static,
     E: Write + Send + Drop + 'static,
     requires new { HasNewEnds station.node.view station.taps.items station.pens.items }
+    requires control { (pages ≡ new_control pages.out pages.back) × (station.node.view.control ≡ Some (new_commands pages.out pages.back)) }
     requires sinks { vec_len sinks ≡ PAGES }
     ensures { result ≡ None → ((took : List (List AMessage)) × IsWholeLiveRun (calls_of NeverFalls X.receives X.sends X.pauses) turns (I.remaining reader) station.node.view took × SawEach S.sees sinks.items took) }
 {
@@ -64,12 +69,12 @@ where
         pens,
         waker,
     } = station;
-    let typing = start_typing(rt, alloc, pens, reader, staying, desk, waker);
+    let typing = start_typing(rt, alloc, pens, pages, reader, staying, desk, waker);
     let hosted = host_if(rt, alloc, typing.is_some(), node, taps, sinks, turns);
     desk.end();
     let typed = join_typing(rt, typing);
     match hosted {
-        Some((hosted, well)) => settle(hosted, well, typed),
+        Some((hosted, ends)) => settle(hosted, ends, typed),
         None => Some(MemberFault::Script(ScriptFault::Memory)),
     }
 }
@@ -77,31 +82,34 @@ where
 // Why the run wasn't whole. If it was, both ends of each lane were put together, and the producers beside their stroke queue.
 fn settle<P: Past<Entry> + Drop>(
     hosted: Hosted<P, Vec<PageMsg>>,
-    well: Well,
+    ends: NodeEnds,
     typed: Option<TypedPens>,
 ) -> Option<MemberFault>
     requires lanes { IfOk hosted.end (λ _. AreEndsOfLanes hosted.feeds.items (map (λ w. w.tap) hosted.worked.items)) }
-    requires pens { IfSome typed (λ t. IfOk hosted.end (λ _. (t.first.well ≡ well.well) × AllByRecursion (λ p. p.well ≡ well.well) t.others.items)) }
+    requires pens { IfSome typed (λ t. IfOk hosted.end (λ _. (t.first.well ≡ ends.well.well) × AllByRecursion (λ p. p.well ≡ ends.well.well) t.others.items)) }
+    requires lines { IfSome typed (λ t. IfOk hosted.end (λ _. AreOnLines ends.commands t.control)) }
     ensures fault { result ≡ None → fault_of_lists (fault_of hosted.end (list_any lacks_memory hosted.worked.items)) (list_all has_close hosted.worked.items) ≡ None }
     ensures takes { result ≡ None → TakePrefixes hosted.feeds.items (map (λ w. w.tap) hosted.worked.items) }
-    ensures pens { result ≡ None → ((t : ThePens) × (typed ≡ Some t) × IsReceivedOf well.received t.first × AllByRecursion (IsReceivedOf well.received) t.others.items) }
+    ensures pens { result ≡ None → ((t : ThePens) × (typed ≡ Some t) × IsReceivedOf ends.well.received t.first × AllByRecursion (IsReceivedOf ends.well.received) t.others.items × AreFirstOf ends.commands t.control) }
 {
     match typed {
-        Some(typed) => settle_typed(hosted, well, typed),
+        Some(typed) => settle_typed(hosted, ends, typed),
         None => Some(MemberFault::Script(ScriptFault::Memory)),
     }
 }
 
 fn settle_typed<P: Past<Entry> + Drop>(
     hosted: Hosted<P, Vec<PageMsg>>,
-    well: Well,
+    ends: NodeEnds,
     typed: TypedPens,
 ) -> Option<MemberFault>
     requires lanes { IfOk hosted.end (λ _. AreEndsOfLanes hosted.feeds.items (map (λ w. w.tap) hosted.worked.items)) }
-    requires pens { IfOk hosted.end (λ _. (typed.first.well ≡ well.well) × AllByRecursion (λ p. p.well ≡ well.well) typed.others.items) }
+    requires pens { IfOk hosted.end (λ _. (typed.first.well ≡ ends.well.well) × AllByRecursion (λ p. p.well ≡ ends.well.well) typed.others.items) }
+    requires lines { IfOk hosted.end (λ _. AreOnLines ends.commands typed.control) }
     ensures fault { result ≡ fault_of_lists (fault_of hosted.end (list_any lacks_memory hosted.worked.items)) (list_all has_close hosted.worked.items) }
     ensures takes { result ≡ None → TakePrefixes hosted.feeds.items (map (λ w. w.tap) hosted.worked.items) }
-    ensures pens { result ≡ None → (IsReceivedOf well.received typed.first × AllByRecursion (IsReceivedOf well.received) typed.others.items) }
+    ensures pens { result ≡ None → (IsReceivedOf ends.well.received typed.first × AllByRecursion (IsReceivedOf ends.well.received) typed.others.items) }
+    ensures answers { result ≡ None → AreFirstOf ends.commands typed.control }
 {
     let Hosted {
         feeds,
@@ -112,22 +120,40 @@ fn settle_typed<P: Past<Entry> + Drop>(
     match MemberFault::of_whole_run(end, worked.as_slice()) {
         Some(fault) => Some(fault),
         None => {
-            put_together(feeds, worked, well, typed);
+            put_together(feeds, worked, ends, typed);
             None
         }
     }
 }
 
-// Puts both ends of each lane together, and the producers beside their stroke queue.
-fn put_together(feeds: Vec<Feed>, worked: Vec<Worked>, well: Well, typed: TypedPens)
+// Puts both ends of each lane together, the producers beside their stroke queue, and the control beside the node's end of it.
+fn put_together(feeds: Vec<Feed>, worked: Vec<Worked>, ends: NodeEnds, typed: TypedPens)
     requires lanes { AreEndsOfLanes feeds.items (map (λ w. w.tap) worked.items) }
-    requires pens { (typed.first.well ≡ well.well) × AllByRecursion (λ p. p.well ≡ well.well) typed.others.items }
+    requires pens { (typed.first.well ≡ ends.well.well) × AllByRecursion (λ p. p.well ≡ ends.well.well) typed.others.items }
+    requires lines { AreOnLines ends.commands typed.control }
     ensures takes { TakePrefixes feeds.items (map (λ w. w.tap) worked.items) }
-    ensures pens { IsReceivedOf well.received typed.first × AllByRecursion (IsReceivedOf well.received) typed.others.items }
+    ensures pens { IsReceivedOf ends.well.received typed.first × AllByRecursion (IsReceivedOf ends.well.received) typed.others.items }
+    ensures answers { AreFirstOf ends.commands typed.control }
 {
-    let TypedPens { first, others } = typed;
-    let mut well = well;
+    let TypedPens {
+        first,
+        others,
+        control,
+    } = typed;
+    let NodeEnds { mut well, commands } = ends;
     settle_lanes(feeds, worked);
     well.join_pen(first);
     join_pens(&mut well, others);
+    settle_answers(control, commands);
+}
+
+// Puts a control beside the node's end of it, if there is one.
+#[tactic(auto, using(crate::proofs::LiveRuns::first_of, crate::proofs::LiveRuns::first_of_none))]
+fn settle_answers(control: PageControl, commands: Option<PageCommands>)
+    requires { AreOnLines commands control }
+    ensures { AreFirstOf commands control }
+{
+    if let Some(commands) = commands {
+        settle_control(control, commands);
+    }
 }

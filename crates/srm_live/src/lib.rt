@@ -15,6 +15,7 @@
 //! [`WAS_BEFORE`].
 #![tactic(auto)]
 
+mod asking;
 mod command;
 mod counted_wire;
 mod cut;
@@ -33,21 +34,28 @@ mod need;
 mod needed;
 mod news;
 mod obeying;
+mod pages_told;
 mod polled_input;
 mod presence;
 mod readable;
 mod remaining;
 mod shown_page;
+mod shown_pages;
 mod tally;
 mod telling;
 mod title;
 mod typed;
 mod typing;
 mod typing_thread;
+mod typist;
 mod unfinished;
 mod watched;
 mod who;
 
+pub use earlier::LastDrawn;
+pub use lingering::{Stay, Staying};
 pub use live_fault::WAS_BEFORE;
 pub use living::run_live;
+pub use need::Need;
+pub use needed::Needed;
 pub use polled_input::PolledInput;

@@ -18,6 +18,7 @@ use crate::lost::Lost;
 use crate::need::Need;
 use crate::needed::Needed;
 use crate::news::{Told, tell_news};
+use crate::shown_pages::ShownPages;
 use crate::telling::start_telling;
 use crate::unfinished::tell_unfinished;
 use crate::watched::Watched;
@@ -26,7 +27,7 @@ use srm_guarded::{Guarded, Published, bind_guarded, read_key};
 use srm_member::{MemberFault, Station};
 use srm_options::NodeOptions;
 use srm_script::ScriptFault;
-use srm_udp::Losses;
+use srm_udp::{Losses, Rested};
 use std::alloc::{AllocError, Global};
 use std::io::{IsTerminal, Read, Write};
 use std::net::Net;
@@ -36,12 +37,14 @@ use std::thread::{JoinHandle, Threads};
 use std::{mem, time};
 
 /// Runs a member with these options: draws each line of the input as it comes, by one producer, and prints what its page workers take as they take it. After the end
-/// of input it stays for `stay` microseconds, lingers until nobody needed what it holds for `linger` microseconds, for 30 seconds at most and not if it is alone,
-/// and leaves.
+/// of input it stays for `stay` microseconds, lingers until for `linger` microseconds, or for 5 seconds if it misses something, nobody needed what it holds and nothing that it
+/// missed came, for 30 seconds at most and not if it is alone, and leaves.
 ///
-/// A line that is too long is told to `err` and not drawn. A line that begins with a slash is a command: `/who`, `/leave` or `/help`; `err` gets a line for any
-/// other. A line that begins with two slashes is a stroke with one slash less. The options' `live` and `verbose` aren't used: the cause of a failed bind is always
-/// told. An input may return `WouldBlock` where nothing is there yet, and is asked again; while a read waits, the member can't end.
+/// A line that is too long is told to `err` and not drawn. A line that begins with a slash is a command: `/page C.P`, `/new`, `/pages`, `/who`, `/leave` or `/help`; `err`
+/// gets a line for any other. A line that begins with two slashes is a stroke with one slash less. Strokes go on the page that `/page` or `/new` turned to last, and
+/// before that on page 0.0. The pages that have strokes are shown in turn, each until a session message told of it. The options' `live` and `verbose` aren't used: the
+/// cause of a failed bind is always told. An input may return `WouldBlock` where nothing is there yet, and is asked again: after a millisecond, or at once if its read took
+/// as long. While a read waits, the member can't end.
 ///
 /// `err` gets who of the others is here, falls silent for ten seconds or leaves; once that the member was in the session before; why its address can't be bound; and at the end who wasn't heard
 /// leaving, which streams miss drawops, what the network refused and what was dropped. If `err` is a terminal, the title of its window says each second what goes on.
@@ -131,15 +134,43 @@ where
         Err(fault) => return Some(LiveFault::Member(MemberFault::from(fault))),
     };
     match bind(rt, alloc, options, key, &staying, desk) {
-        Ok(station) => {
-            let telling = start_telling(rt, desk);
-            let run = host_live(rt, alloc, station, sinks, reader, staying, turns, desk);
-            let told = told_by(rt, telling);
-            let was_before = tell_last(rt, told, desk);
-            end(rt, run, was_before, desk)
-        }
+        Ok(station) => run_bound(rt, alloc, station, reader, sinks, staying, turns, desk),
         Err(fault) => Some(fault),
     }
+}
+
+// Runs a member that is bound, whose node is asked for pages. Why it wasn't run to its end, if it wasn't.
+#[tactic(auto, using(crate::proofs::LiveRuns::control_is))]
+fn run_bound<R, I, O, E>(
+    rt: &R,
+    alloc: Global,
+    station: Station<R, Rested<R, CountedWire>, Published<Needed<Watched>>>,
+    reader: I,
+    sinks: Vec<Printing<R, O, E>>,
+    staying: Staying,
+    turns: u64,
+    desk: &Arc<Desk<O, E>, Global>,
+) -> Option<LiveFault>
+where
+    R: time::Clock + Threads + Wait + Copy + Send + Drop + 'static,
+    I: Read + Send + Drop + 'static,
+    O: Write + Send + Drop + 'static,
+    E: Write + Send + Drop + 'static,
+    requires new { HasNewEnds station.node.view station.taps.items station.pens.items }
+    requires sinks { vec_len sinks ≡ PAGES }
+{
+    let mut station = station;
+    let Ok(control) = station.node.control(alloc) else {
+        return Some(out_of_memory());
+    };
+    let pages = ShownPages::new(alloc, control);
+    let telling = start_telling(rt, desk);
+    let run = host_live(
+        rt, alloc, station, pages, sinks, reader, staying, turns, desk,
+    );
+    let told = told_by(rt, telling);
+    let was_before = tell_last(rt, told, desk);
+    end(rt, run, was_before, desk)
 }
 
 // What the thread told that tells what changes, if there was one.
@@ -200,7 +231,7 @@ fn bind<R, O, E>(
     key: Option<Key>,
     staying: &Staying,
     desk: &Desk<O, E>,
-) -> Result<Station<R, CountedWire, Published<Needed<Watched>>>, LiveFault>
+) -> Result<Station<R, Rested<R, CountedWire>, Published<Needed<Watched>>>, LiveFault>
 where
     R: Net + time::Clock + Copy + Drop,
     O: Write,
@@ -218,6 +249,7 @@ where
     match bind_guarded(rt, alloc, options.config, &options.guard, key, addresses) {
         Ok(Guarded { wire, waker, known }) => {
             let wire = CountedWire::new(wire, desk.share_tally());
+            let wire = Rested::new(*rt, wire);
             let watched = Watched::new(alloc, options.config, desk.share_tally());
             let past = Needed::new(alloc, watched, Arc::try_clone(&staying.need).ok());
             let past = Published::new(alloc, past, known);

@@ -47,7 +47,7 @@ impl LostCounts {
     }
 }
 
-/// What was lost, in words: `KIND N` for each kind of which there were some, with commas between.
+/// What was lost, in words: `KIND N` for each kind that isn't at 0, with commas between.
 #[derive(Clone, Copy, Debug, PartialEq, Eq)]
 pub struct Lost(pub Losses);
 

@@ -1,21 +1,23 @@
-//! What others still need of a member.
+//! What a member and others still need of each other.
 
 use std::sync::atomic::{AtomicU64, AtomicUsize, Ordering};
 
-/// What others still need of a member, as far as it knows. One thread notes it, and any reads. Counts wrap at 2^64.
+/// What others still need of a member and what it misses, as far as it knows. One thread notes it, and any reads. Counts wrap at 2^64.
 #[derive(Drop)]
 pub struct Need {
     asked: AtomicU64,
     repairs: AtomicUsize,
+    missing: AtomicUsize,
     sessions: AtomicU64,
 }
 
 impl Need {
-    /// Makes the need of nothing: nothing was asked for, and nothing sent.
+    /// Makes the need of nothing: nothing was asked for, nothing is missing, and nothing was sent.
     pub fn new() -> Need {
         Need {
             asked: AtomicU64::new(0),
             repairs: AtomicUsize::new(0),
+            missing: AtomicUsize::new(0),
             sessions: AtomicU64::new(0),
         }
     }
@@ -28,6 +30,11 @@ impl Need {
     /// Stores how many repair timers run now.
     pub fn show_repairs(&self, count: usize) {
         self.repairs.store(count, Ordering::SeqCst);
+    }
+
+    /// Stores how many strokes the member misses now.
+    pub fn show_missing(&self, count: usize) {
+        self.missing.store(count, Ordering::SeqCst);
     }
 
     /// Notes that the member drew a stroke; no session message told of it yet.
@@ -48,6 +55,11 @@ impl Need {
     /// Returns whether a repair timer runs.
     pub fn has_repairs(&self) -> bool {
         self.repairs.load(Ordering::SeqCst) > 0
+    }
+
+    /// Returns how many strokes the member misses.
+    pub fn missing(&self) -> usize {
+        self.missing.load(Ordering::SeqCst)
     }
 
     /// Returns how many session messages were sent since the last stroke.

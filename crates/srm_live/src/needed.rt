@@ -1,4 +1,4 @@
-//! Entries of which what others need of the member is noted.
+//! A node's history that notes what others need of the member.
 
 ghost use Rattle.std.specs.Prelude.{◌≡◌};
 
@@ -58,7 +58,7 @@ impl<P: Past<Entry> + Drop> Past<Entry> for Needed<P> {
 }
 
 // What the member misses and which repair timers run, by its entries so far. If out of memory, a name is left out: then the member may stay longer than it needs to,
-// or leave before a repair.
+// or leave before a repair that it sends or waits for.
 #[derive(Drop)]
 struct Notes {
     missing: IndexSet<Name>,
@@ -84,6 +84,7 @@ impl Notes {
             _ => {}
         }
         self.need.show_repairs(self.repairs.len());
+        self.need.show_missing(self.missing.len());
     }
 
     fn arm(&mut self, effects: &Effects) {

@@ -27,8 +27,8 @@ impl Told {
     }
 }
 
-/// Tells what changed since: who of the others is here, fell silent or left, that the member with this number was in the session before, and why the first datagram was dropped. A line for which
-/// there is no memory is left out.
+/// Tells what changed since: who of the others is here, fell silent or left, that the member with this number was in the session before, and why the first datagram was dropped. If out
+/// of memory, a line is left out.
 pub fn tell_news<R: Wait, O: Write, E: Write>(
     rt: &R,
     tally: &Tally,
@@ -91,7 +91,7 @@ fn tell<R: Wait, O: Write, E: Write>(rt: &R, desk: &Desk<O, E>, member: Member, 
     }
 }
 
-// What is told of a member of which this was known, and now this is.
+// Returns what to tell of a member whose standing changed.
 fn news_of(before: Standing, now: Standing) -> Option<&'static str> {
     match (before, now) {
         (Standing::Unheard, Standing::Here) => Some("is here"),

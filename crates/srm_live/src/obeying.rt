@@ -1,34 +1,106 @@
 //! Doing what who types tells a live member.
 
+ghost use Rattle.std.specs.Prelude.{IfOk, OnErr};
+ghost use Rattle.srm_live.specs.Typing.{Turns, Does, Ends};
+ghost use Rattle.srm_live.specs.declared.typed.Typed.TheVariants.{Order};
+
 use crate::command::Command;
 use crate::cut::ReadingEnd;
 use crate::desk::Desk;
+use crate::pages_told::tell_pages;
+use crate::typist::Typist;
 use crate::who::tell_who;
+use srm_control::{PageCommand, PageRefusal};
+use srm_member::Waking;
+use srm_names::Page;
 use std::io::Write;
 use std::sync::Wait;
+use std::time::Clock;
 
 /// What is told of commands.
 const HELP: &str = "\
 srm: each line is a stroke; a line that begins with // is one with one / less
-srm: /who    who is here, and what is missing of whom
-srm: /leave  leaves, as the end of input does
-srm: /help   these lines
+srm: /page C.P  shows page P of member C, and draws there
+srm: /new       begins a page, and draws there
+srm: /pages     which pages have strokes
+srm: /who       who is here, and what is missing of whom
+srm: /leave     leaves, as the end of input does
+srm: /help      these lines
 ";
 
 /// What is told of a command that there isn't.
 const UNKNOWN: &str = "srm: no such command: /help names them, and //x draws /x\n";
 
-/// Does what a command says, or tells that there is none of this name. Fails only with [`ReadingEnd::Left`], if it says to leave.
-pub fn obey<R: Wait, O: Write, E: Write>(
+/// Does what a command says, typed by one who draws on this page, or tells that there is no such command. Returns the page where they draw from now on, `Left` if the
+/// member is to leave, and `Closed` if the node has ended and didn't answer.
+#[tactic(auto, using(crate::proofs::TypedLines::does_show, crate::proofs::TypedLines::does_begin, crate::proofs::TypedLines::does_no_command, crate::proofs::TypedLines::does_pages, crate::proofs::TypedLines::does_who, crate::proofs::TypedLines::does_help, crate::proofs::TypedLines::ends_none))]
+pub fn obey<R: Clock + Wait, O: Write, E: Write>(
     rt: &R,
+    typist: &mut Typist,
     command: Option<Command>,
+    page: &Page,
     desk: &Desk<O, E>,
-) -> Result<(), ReadingEnd> {
+    waker: &Waking,
+) -> Result<Page, ReadingEnd>
+    ensures does { IfOk result (λ turned. Does (Order command) page.now typist.old turned typist.new) }
+    ensures ends { OnErr result (Ends typist.old typist.new) }
+{
     match command {
-        Some(Command::Leave) => return Err(ReadingEnd::Left),
-        Some(Command::Who) => tell_who(rt, desk),
-        Some(Command::Help) => desk.tell(rt, HELP),
-        None => desk.tell(rt, UNKNOWN),
+        Some(Command::Show(named)) => turn_by(
+            rt,
+            typist,
+            &PageCommand::Show(named),
+            page,
+            desk,
+            waker,
+        ),
+        Some(Command::Begin) => turn_by(rt, typist, &PageCommand::Begin, page, desk, waker),
+        Some(Command::Leave) => Err(ReadingEnd::Left),
+        Some(Command::Pages) => {
+            tell_pages(rt, page, desk);
+            Ok(*page)
+        }
+        Some(Command::Who) => {
+            tell_who(rt, desk);
+            Ok(*page)
+        }
+        Some(Command::Help) => {
+            desk.tell(rt, HELP);
+            Ok(*page)
+        }
+        None => {
+            desk.tell(rt, UNKNOWN);
+            Ok(*page)
+        }
     }
-    Ok(())
+}
+
+// Asks the node for a page, or tells why none is shown. The page where strokes are drawn from now on.
+#[tactic(auto, using(crate::proofs::TypedLines::turns_shown, crate::proofs::TypedLines::turns_refused, crate::proofs::TypedLines::ends_heard))]
+fn turn_by<R: Clock + Wait, O: Write, E: Write>(
+    rt: &R,
+    typist: &mut Typist,
+    command: &PageCommand,
+    page: &Page,
+    desk: &Desk<O, E>,
+    waker: &Waking,
+) -> Result<Page, ReadingEnd>
+    ensures turns { IfOk result (λ turned. Turns command.now page.now typist.old turned typist.new) }
+    ensures ends { OnErr result (Ends typist.old typist.new) }
+{
+    match typist.ask(rt, command, desk.ended(), waker) {
+        Some(Ok(shown)) => Ok(shown),
+        Some(Err(refusal)) => {
+            tell_refusal(rt, refusal, desk);
+            Ok(*page)
+        }
+        None => Err(ReadingEnd::Closed),
+    }
+}
+
+// Tells why a page isn't shown. If out of memory, it tells nothing.
+fn tell_refusal<R: Wait, O: Write, E: Write>(rt: &R, refusal: PageRefusal, desk: &Desk<O, E>) {
+    if let Ok(line) = format!(in desk.alloc(); "srm: the page isn't shown: {refusal}\n") {
+        desk.tell(rt, line.as_str());
+    }
 }

@@ -1,10 +1,11 @@
 //! What a member goes through, counted.
 
 use crate::dropped::{Dropped, DroppedCounts};
-use crate::holes::Holes;
+use crate::holes::{Holes, code_of, page_of};
 use crate::lost::{Lost, LostCounts};
 use crate::presence::Presence;
 use srm_codec::Datagram;
+use srm_names::Page;
 use srm_udp::Losses;
 use std::alloc::{AllocError, Global};
 use std::fmt;
@@ -28,6 +29,18 @@ pub struct Tally {
     noise: AtomicU64,
     lost: LostCounts,
     dropped: DroppedCounts,
+    // How many session messages were sent, and the page of the last one, as a number.
+    sessions: AtomicU64,
+    told_page: AtomicU64,
+}
+
+/// The session messages that a member sent.
+#[derive(Clone, Copy, Debug, PartialEq, Eq)]
+pub struct Sessions {
+    /// How many they are.
+    pub count: u64,
+    /// The page of the last of them.
+    pub page: Option<Page>,
 }
 
 impl Tally {
@@ -48,6 +61,8 @@ impl Tally {
             noise: AtomicU64::new(0),
             lost: LostCounts::new(),
             dropped: DroppedCounts::new(),
+            sessions: AtomicU64::new(0),
+            told_page: AtomicU64::new(0),
         })
     }
 
@@ -97,7 +112,21 @@ impl Tally {
         self.missing.store(count, Ordering::SeqCst);
     }
 
-    /// Returns which drawops are missing now, by stream.
+    /// Notes that a session message of this page was sent.
+    pub fn note_session(&self, page: Page) {
+        self.told_page.store(code_of(page), Ordering::SeqCst);
+        add_one(&self.sessions);
+    }
+
+    /// Returns the session messages that were sent by now.
+    pub fn sessions(&self) -> Sessions {
+        Sessions {
+            count: self.sessions.load(Ordering::SeqCst),
+            page: page_of(self.told_page.load(Ordering::SeqCst)),
+        }
+    }
+
+    /// Returns which pages have strokes, and which drawops are missing now, by stream.
     pub fn holes(&self) -> &Holes {
         &self.holes
     }

@@ -1,6 +1,7 @@
 //! The line that is being typed, and what it says.
 
 ghost use Rattle.std.specs.Prelude.{◌≡◌, ◌↔◌, IsTrue, OnOk, OnErr, IfOk, []};
+ghost use Rattle.srm_names.specs.Names.{first_page};
 ghost use Rattle.srm_live.specs.Commands as spec;
 ghost use Rattle.srm_live.specs.Commands.{said_of};
 ghost use Rattle.srm_live.specs.declared.typed.Typed.TheVariants.{Stroke};
@@ -8,7 +9,7 @@ ghost use Rattle.srm_live.specs.Typing.{with_byte, typed_of, line_after};
 
 use crate::command::{Command, command_in};
 use bytes::Bytes;
-use srm_names::LONGEST_BODY;
+use srm_names::{LONGEST_BODY, Page};
 use std::alloc::{AllocError, Global};
 use std::marker::Model;
 
@@ -23,11 +24,12 @@ pub enum Typed {
     Order(Option<Command>),
 }
 
-/// The line that is being typed. Of one that is too long a byte more is kept than a stroke holds.
+/// The line that is being typed, and the page where who types it stands. Of one that is too long a byte more is kept than a stroke holds.
 #[derive(Drop)]
 pub struct Line {
     alloc: Global,
     number: u64,
+    page: Page,
     kept: Vec<u8>,
 }
 
@@ -36,17 +38,18 @@ impl Model for Line {
 
     ghost Value = { LineContent };
 
-    ghost view = { λ l. record { number = l.number; kept = l.kept.items } };
+    ghost view = { λ l. record { number = l.number; page = l.page; kept = l.kept.items } };
 }
 
 impl Line {
-    /// Makes the first line, with nothing typed.
+    /// The first line, before anything of it is typed, by one who stands on the first page.
     pub fn new(alloc: Global) -> Line
-        ensures { result ≡ record { number = 1; kept = [] } }
+        ensures { result ≡ record { number = 1; page = first_page; kept = [] } }
     {
         Line {
             alloc,
             number: 1,
+            page: Page::first(),
             kept: Vec::new(alloc),
         }
     }
@@ -76,6 +79,20 @@ impl Line {
         self.kept.clear();
         self.number = self.number.saturating_add(1);
         Ok(typed)
+    }
+
+    /// Returns the page where who types the line stands.
+    pub fn page(&self) -> Page
+        ensures { result ≡ self.now.page }
+    {
+        self.page
+    }
+
+    /// Notes that who types stands on this page from now on.
+    pub fn turn_to(&mut self, page: Page)
+        ensures { self.new ≡ record self.old { page = page } }
+    {
+        self.page = page;
     }
 
     /// Returns whether nothing of the line is typed.

@@ -5,7 +5,10 @@ ghost use Rattle.srm_live.specs.LiveRuns.{HaveTyped};
 
 use crate::desk::Desk;
 use crate::lingering::Staying;
+use crate::shown_pages::ShownPages;
 use crate::typing::draw_typed;
+use crate::typist::{Finished, Typist};
+use srm_control::PageControl;
 use srm_member::Waking;
 use srm_pages::{Inked, Pen};
 use std::alloc::Global;
@@ -16,30 +19,33 @@ use std::sync::{Arc, Wait};
 use std::thread::{Promise, PromisedHandle, Threads};
 use std::{thread, time};
 
-/// A promise: this producer sends a prefix of the strokes that are typed in what this reader has.
+/// A promise: this typist sends a prefix of the strokes that are typed in what this reader has, by answers that come to the control.
 #[derive(Drop)]
-pub struct DrawsLines<I: Read>(Snapshot<Pen>, Snapshot<I>);
+pub struct DrawsLines<I: Read>(Snapshot<Typist>, Snapshot<I>);
 
-impl<I: Read> Promise<Inked> for DrawsLines<I> {
-    ghost use Rattle.srm_live.specs.Typing.{SamePen, PenSentPrefixOf};
+impl<I: Read> Promise<Finished> for DrawsLines<I> {
+    ghost use Rattle.srm_live.specs.Typing.{SameTypist, SentPrefixOf};
+    ghost use Rattle.srm_live.specs.LiveRuns.{typist};
 
-    ghost kept_by = { λ p inked. SamePen p.0.value inked × PenSentPrefixOf (I.remaining p.1.value) p.0.value inked };
+    ghost kept_by = { λ p f. SameTypist p.0.value (typist f.inked f.control) × SentPrefixOf (I.remaining p.1.value) p.0.value (typist f.inked f.control) };
 }
 
 /// The thread of the first producer, which draws what is typed, and the others, which are done.
 #[derive(Drop)]
 pub struct Typing<I: Read> {
-    first: PromisedHandle<Inked, DrawsLines<I>>,
+    first: PromisedHandle<Finished, DrawsLines<I>>,
     others: Vec<Inked>,
 }
 
-/// All producers, which are done: the one that drew what was typed, and the others.
+/// All producers, which are done, and the control: the one that drew what was typed, and the others.
 #[derive(Drop)]
 pub struct TypedPens {
     /// The one that drew what was typed.
     pub first: Inked,
     /// The others, which drew nothing.
     pub others: Vec<Inked>,
+    /// The control that asked for pages.
+    pub control: PageControl,
 }
 
 /// Starts the thread of the first producer, which draws what is typed; the others are done. Returns `None` if memory ran out or no thread can be started.
@@ -47,6 +53,7 @@ pub fn start_typing<R, I, O, E>(
     rt: &R,
     alloc: Global,
     pens: Vec<Pen>,
+    pages: ShownPages,
     reader: I,
     staying: Staying,
     desk: &Arc<Desk<O, E>, Global>,
@@ -58,7 +65,7 @@ where
     O: Write + Send + Drop + 'static,
     E: Write + Send + Drop + 'static,
     ensures reader { IfSome result (λ t. t.first.promise.1.value ≡ reader) }
-    ensures pens { IfSome result (λ t. pens.items ≡ t.first.promise.0.value ∷ t.others.items) }
+    ensures pens { IfSome result (λ t. (pens.items ≡ t.first.promise.0.value.pen ∷ t.others.items) × (pages ≡ t.first.promise.0.value.control)) }
 {
     let Some((pen, others)) = split_pens(alloc, pens) else {
         return None;
@@ -66,7 +73,8 @@ where
     let Ok(desk) = Arc::try_clone(desk) else {
         return None;
     };
-    match spawn_typing(rt, alloc, pen, reader, staying, desk, waker) {
+    let typist = Typist::new(pen, pages);
+    match spawn_typing(rt, alloc, typist, reader, staying, desk, waker) {
         Some(first) => Some(Typing { first, others }),
         None => None,
     }
@@ -75,23 +83,23 @@ where
 fn spawn_typing<R, I, O, E>(
     rt: &R,
     alloc: Global,
-    pen: Pen,
+    typist: Typist,
     reader: I,
     staying: Staying,
     desk: Arc<Desk<O, E>, Global>,
     waker: Waking,
-) -> Option<PromisedHandle<Inked, DrawsLines<I>>>
+) -> Option<PromisedHandle<Finished, DrawsLines<I>>>
 where
     R: time::Clock + Threads + Wait + Copy + Send + Drop + 'static,
     I: Read + Send + Drop + 'static,
     O: Write + Send + Drop + 'static,
     E: Write + Send + Drop + 'static,
-    ensures { IfSome result (λ h. (h.promise.0.value ≡ pen) × (h.promise.1.value ≡ reader)) }
+    ensures { IfSome result (λ h. (h.promise.0.value ≡ typist) × (h.promise.1.value ≡ reader)) }
 {
     let own = *rt;
-    let promise = DrawsLines(Snapshot::of(&pen), Snapshot::of(&reader));
+    let promise = DrawsLines(Snapshot::of(&typist), Snapshot::of(&reader));
     let spawned = thread::spawn_with(rt, promise, move || {
-        draw_typed(&own, alloc, reader, pen, &staying, &desk, &waker)
+        draw_typed(&own, alloc, reader, typist, &staying, &desk, &waker)
     });
     spawned.ok()
 }
@@ -118,9 +126,9 @@ fn all_done(alloc: Global, pens: VecDeque<Pen>) -> Option<Vec<Inked>>
     Some(inked)
 }
 
-/// Waits for the thread, if there is one, and returns all producers.
+/// Waits for the thread, if there is one, and returns all producers and the control.
 pub fn join_typing<R: Threads, I: Read>(rt: &R, typing: Option<Typing<I>>) -> Option<TypedPens>
-    ensures typed { IfSome result (λ pens. IfSome typing (λ t. HaveTyped (I.remaining t.first.promise.1.value) (t.first.promise.0.value ∷ t.others.items) pens.first pens.others.items)) }
+    ensures typed { IfSome result (λ p. IfSome typing (λ t. HaveTyped (I.remaining t.first.promise.1.value) (t.first.promise.0.value.pen ∷ t.others.items) t.first.promise.0.value.control p.first p.others.items p.control)) }
     ensures none { typing ≡ None → result ≡ None }
 {
     match typing {
@@ -130,11 +138,13 @@ pub fn join_typing<R: Threads, I: Read>(rt: &R, typing: Option<Typing<I>>) -> Op
 }
 
 fn join_pens_of<R: Threads, I: Read>(rt: &R, typing: Typing<I>) -> TypedPens
-    ensures { HaveTyped (I.remaining typing.first.promise.1.value) (typing.first.promise.0.value ∷ typing.others.items) result.first result.others.items }
+    ensures { HaveTyped (I.remaining typing.first.promise.1.value) (typing.first.promise.0.value.pen ∷ typing.others.items) typing.first.promise.0.value.control result.first result.others.items result.control }
 {
     let Typing { first, others } = typing;
+    let Finished { inked, control } = first.join(rt);
     TypedPens {
-        first: first.join(rt),
+        first: inked,
         others,
+        control,
     }
 }

@@ -11,7 +11,7 @@ use std::fmt;
 use std::io::Write;
 use std::sync::Wait;
 
-/// Tells which of the others weren't heard leaving, and of which streams drawops are missing. If out of memory, a line is left out.
+/// Tells which of the others weren't heard leaving, and which streams have drawops missing. If out of memory, a line is left out.
 pub fn tell_unfinished<R: Wait, O: Write, E: Write>(rt: &R, tally: &Tally, desk: &Desk<O, E>) {
     let staying = Staying {
         presence: tally.presence(),
@@ -27,7 +27,7 @@ pub fn tell_unfinished<R: Wait, O: Write, E: Write>(rt: &R, tally: &Tally, desk:
     }
 }
 
-// Tells of which streams of a page drawops are missing.
+// Tells which streams of a page have drawops missing.
 fn tell_holes<R: Wait, O: Write, E: Write>(rt: &R, holes: &PageHoles, desk: &Desk<O, E>) {
     let Some(page) = holes.page() else {
         return;

@@ -112,6 +112,11 @@ impl Watch {
 
     fn tick(&mut self, entry: &Entry) {
         self.look_for_silence(entry.moment);
+        for datagram in entry.effects.outs.as_slice() {
+            if let Datagram::Session { shown, .. } = datagram {
+                self.tally.note_session(*shown);
+            }
+        }
         // Who is alone sends to nobody.
         if self.config.members() > 1 {
             for datagram in entry.effects.outs.as_slice() {
@@ -172,6 +177,9 @@ impl Watch {
 
     // Notes what was drawn. Without memory for it nothing is said of an earlier run any more.
     fn note_drawn(&mut self, entry: &Entry) {
+        if let Some(drawop) = &entry.effects.drawn {
+            self.tally.holes().note_page(drawop.name.stream().page);
+        }
         if let (Some(drawop), Some(drawn)) = (&entry.effects.drawn, &mut self.drawn) {
             if drawn.note(drawop.name).is_err() {
                 self.drawn = None;
@@ -182,6 +190,7 @@ impl Watch {
     // The drawop that a datagram brought isn't missing any more.
     fn gain(&mut self, datagram: &Datagram) {
         if let Datagram::Data(drawop) | Datagram::Repair { drawop, .. } = datagram {
+            self.tally.holes().note_page(drawop.name.stream().page);
             if self.missing.swap_remove(&drawop.name) {
                 self.tally.holes().note_came(drawop.name);
             }

@@ -1,4 +1,4 @@
--- Pens whose threads are joined one after another.
+-- Producers whose threads are joined one after another.
 use Rattle.std.proofs.Common.{◌≡◌, ℕ, ◌+◌, ◌≤◌, List, [], ◌∷◌, ◌++◌, length, map, ap, sym, ◌∙◌, subst, append_assoc, arith, add-one}
 use Rattle.srm_pages.specs.Ends.{PenView}
 use Rattle.srm_member.specs.declared.pens.PenThread.{PenThread}

@@ -18,6 +18,7 @@ use Rattle.srm_world.specs.Traces.{Journal}
 use Rattle.srm_node.specs.declared.fault.NodeFault.{NodeFault}
 use Rattle.srm_node.specs.declared.fault.NodeFault.TheVariants.{Wire, Memory, Turns}
 use Rattle.srm_node.specs.declared.hosting.Hosted.{Hosted}
+use Rattle.srm_node.specs.declared.hosting.NodeEnds.{NodeEnds}
 use Rattle.srm_node.specs.declared.working.Worked.{Worked}
 use Rattle.srm_node.specs.Calls.{Calls}
 use Rattle.srm_node.specs.Nodes.{NodeView}
@@ -91,10 +92,10 @@ map_prefix f xs ys (rest, is) = (map f rest, sym (map-append f xs rest) ∙ ap (
 
 -- THE WHOLE
 
-takes_at : {P L S X C : Type 0} (calls : Calls X C) (kinds : Kinds L S) (turns : ℕ) (node : NodeView X C) (taps : List TapView) (pens : List PenView) (sinks : List S) (well : WellView) (h : Hosted P L)
-    → HasNewEnds node taps pens → (x : HostsWith calls kinds node (zip taps sinks) turns well h) → TakePrefixes h.feeds.items (map (λ (w : Worked L). w.tap) h.worked.items)
+takes_at : {P L S X C : Type 0} (calls : Calls X C) (kinds : Kinds L S) (turns : ℕ) (node : NodeView X C) (taps : List TapView) (pens : List PenView) (sinks : List S) (left : NodeEnds) (h : Hosted P L)
+    → HasNewEnds node taps pens → (x : HostsWith calls kinds node (zip taps sinks) turns left h) → TakePrefixes h.feeds.items (map (λ (w : Worked L). w.tap) h.worked.items)
     → (slot : ℕ) (ms : List PageMsg) → slice_get (map (λ (w : Worked L). kinds.entries w.list) h.worked.items) slot ≡ Some ms → IsPrefix ms (given x.0.last.journal.entries slot)
-takes_at {P} {L} calls kinds turns node taps pens sinks well h ends (x, well_is) takes slot ms at =
+takes_at {P} {L} calls kinds turns node taps pens sinks left h ends (x, well_is, control_is) takes slot ms at =
     let (w, at_w, list) = map_at (λ (w : Worked L). kinds.entries w.list) h.worked.items slot ms at in
     let (t, s, at_t, at_s, worked) = worked_at kinds taps sinks h.worked.items slot w x.workers at_w in
     let (f, at_f) = at_place h.feeds.items slot (omega (arith, slice_get_within taps slot t at_t, ends.slots, x.keeps.slots, ap length x.feeds)) in
@@ -104,13 +105,13 @@ takes_at {P} {L} calls kinds turns node taps pens sinks well h ends (x, well_is)
     subst (λ (xs : List PageMsg). IsPrefix xs (given x.last.journal.entries slot)) taken (front_of_front w.tap.taken f.put (given x.last.journal.entries slot) put gave)
 
 -- and all of it, where the worker's list goes to its close
-whole_at : {P L S X C : Type 0} (calls : Calls X C) (kinds : Kinds L S) (turns : ℕ) (node : NodeView X C) (taps : List TapView) (pens : List PenView) (sinks : List S) (well : WellView) (h : Hosted P L)
-    → HasNewEnds node taps pens → (x : HostsWith calls kinds node (zip taps sinks) turns well h) → TakePrefixes h.feeds.items (map (λ (w : Worked L). w.tap) h.worked.items)
+whole_at : {P L S X C : Type 0} (calls : Calls X C) (kinds : Kinds L S) (turns : ℕ) (node : NodeView X C) (taps : List TapView) (pens : List PenView) (sinks : List S) (left : NodeEnds) (h : Hosted P L)
+    → HasNewEnds node taps pens → (x : HostsWith calls kinds node (zip taps sinks) turns left h) → TakePrefixes h.feeds.items (map (λ (w : Worked L). w.tap) h.worked.items)
     → list_all (λ (w : Worked L). list_any is_close (kinds.entries w.list)) h.worked.items ≡ true
     → (slot : ℕ) (ms : List PageMsg) → slice_get (map (λ (w : Worked L). kinds.entries w.list) h.worked.items) slot ≡ Some ms → ms ≡ given x.0.last.journal.entries slot
-whole_at {P} {L} calls kinds turns node taps pens sinks well h ends (x, well_is) takes closed slot ms at =
+whole_at {P} {L} calls kinds turns node taps pens sinks left h ends (x, well_is, control_is) takes closed slot ms at =
     let (w, at_w, list) = map_at (λ (w : Worked L). kinds.entries w.list) h.worked.items slot ms at in
-    whole_take ms (given x.last.journal.entries slot) (takes_at calls kinds turns node taps pens sinks well h ends (x, well_is) takes slot ms at) (x.keeps.lawful.gives.feeds slot)
+    whole_take ms (given x.last.journal.entries slot) (takes_at calls kinds turns node taps pens sinks left h ends (x, well_is, control_is) takes slot ms at) (x.keeps.lawful.gives.feeds slot)
     (ap (list_any is_close) (sym list) ∙ all_at (λ (w : Worked L). list_any is_close (kinds.entries w.list)) h.worked.items slot w closed at_w)
 
 draws_at : {X C : Type 0} (node : NodeView X C) (taps : List TapView) (pens inked : List PenView) (dealt : List (List (List ℕ))) (well : WellView) → HasNewEnds node taps pens → PensDrew (zip pens dealt) inked → AllByRecursion (IsReceivedOf well.received) inked
@@ -131,31 +132,31 @@ saw_each {L} {S} kinds taps sinks ws new h = λ slot s ms at_s at.
     let at_slot : SeesEach kinds.sees slot (is_stopped w.end) (kinds.entries w.list) s worked.last = subst (λ (n : ℕ). SeesEach kinds.sees n (is_stopped w.end) (kinds.entries w.list) s worked.last) (new slot t at_t).1 first in
     (worked.last, is_stopped w.end, subst (λ (xs : List PageMsg). SeesEach kinds.sees slot (is_stopped w.end) xs s worked.last) list at_slot)
 
-pub whole_host : {P L S X C : Type 0} (calls : Calls X C) (kinds : Kinds L S) (turns : ℕ) (node : NodeView X C) (taps : List TapView) (pens : List PenView) (sinks : List S) (well : WellView) (h : Hosted P L)
-    → HasNewEnds node taps pens → length sinks ≡ PAGES → HostsWith calls kinds node (zip taps sinks) turns well h → TakePrefixes h.feeds.items (map (λ (w : Worked L). w.tap) h.worked.items) → list_all (λ (w : Worked L). list_any is_close (kinds.entries w.list)) h.worked.items ≡ true
+pub whole_host : {P L S X C : Type 0} (calls : Calls X C) (kinds : Kinds L S) (turns : ℕ) (node : NodeView X C) (taps : List TapView) (pens : List PenView) (sinks : List S) (left : NodeEnds) (h : Hosted P L)
+    → HasNewEnds node taps pens → length sinks ≡ PAGES → HostsWith calls kinds node (zip taps sinks) turns left h → TakePrefixes h.feeds.items (map (λ (w : Worked L). w.tap) h.worked.items) → list_all (λ (w : Worked L). list_any is_close (kinds.entries w.list)) h.worked.items ≡ true
     → IsWholeHost calls turns node (map (λ (w : Worked L). kinds.entries w.list) h.worked.items)
-whole_host {P} {L} calls kinds turns node taps pens sinks well h ends count (x, well_is) takes closed = record {
+whole_host {P} {L} calls kinds turns node taps pens sinks left h ends count (x, well_is, control_is) takes closed = record {
   last = x.last;
   runs = x.runs;
   keeps = x.keeps;
   slots = length-map h.worked.items (λ (w : Worked L). kinds.entries w.list) ∙ worked_length kinds (zip taps sinks) h.worked.items x.workers ∙ zip_length taps sinks (ends.slots ∙ sym count) ∙ ends.slots;
-  takes = whole_at calls kinds turns node taps pens sinks well h ends (x, well_is) takes closed;
+  takes = whole_at calls kinds turns node taps pens sinks left h ends (x, well_is, control_is) takes closed;
 }
 
--- and with it the stroke queue that the node had at its end
-pub whole_host_well : {P L S X C : Type 0} (calls : Calls X C) (kinds : Kinds L S) (turns : ℕ) (node : NodeView X C) (taps : List TapView) (pens : List PenView) (sinks : List S) (well : WellView) (h : Hosted P L)
-    → HasNewEnds node taps pens → length sinks ≡ PAGES → HostsWith calls kinds node (zip taps sinks) turns well h → TakePrefixes h.feeds.items (map (λ (w : Worked L). w.tap) h.worked.items) → list_all (λ (w : Worked L). list_any is_close (kinds.entries w.list)) h.worked.items ≡ true
-    → (host : IsWholeHost calls turns node (map (λ (w : Worked L). kinds.entries w.list) h.worked.items)) × (well ≡ host.last.well)
+-- and with it the stroke queue and the end of a control that the node had at its end
+pub whole_host_ends : {P L S X C : Type 0} (calls : Calls X C) (kinds : Kinds L S) (turns : ℕ) (node : NodeView X C) (taps : List TapView) (pens : List PenView) (sinks : List S) (left : NodeEnds) (h : Hosted P L)
+    → HasNewEnds node taps pens → length sinks ≡ PAGES → HostsWith calls kinds node (zip taps sinks) turns left h → TakePrefixes h.feeds.items (map (λ (w : Worked L). w.tap) h.worked.items) → list_all (λ (w : Worked L). list_any is_close (kinds.entries w.list)) h.worked.items ≡ true
+    → (host : IsWholeHost calls turns node (map (λ (w : Worked L). kinds.entries w.list) h.worked.items)) × (left.well ≡ host.last.well) × (left.commands ≡ host.last.control)
 unfolding whole_host
-whole_host_well {P} {L} calls kinds turns node taps pens sinks well h ends count (x, well_is) takes closed = (whole_host calls kinds turns node taps pens sinks well h ends count (x, well_is) takes closed, well_is)
+whole_host_ends {P} {L} calls kinds turns node taps pens sinks left h ends count (x, well_is, control_is) takes closed = (whole_host calls kinds turns node taps pens sinks left h ends count (x, well_is, control_is) takes closed, well_is, control_is)
 
-pub whole_run : {P L S X C : Type 0} (calls : Calls X C) (kinds : Kinds L S) (turns : ℕ) (node : NodeView X C) (taps : List TapView) (pens inked : List PenView) (sinks : List S) (dealt : List (List (List ℕ))) (well : WellView) (h : Hosted P L)
-    → HasNewEnds node taps pens → length sinks ≡ PAGES → HostsWith calls kinds node (zip taps sinks) turns well h → PensDrew (zip pens dealt) inked
-    → TakePrefixes h.feeds.items (map (λ (w : Worked L). w.tap) h.worked.items) → list_all (λ (w : Worked L). list_any is_close (kinds.entries w.list)) h.worked.items ≡ true → AllByRecursion (IsReceivedOf well.received) inked → IsWholeRun calls turns dealt node (map (λ (w : Worked L). kinds.entries w.list) h.worked.items)
+pub whole_run : {P L S X C : Type 0} (calls : Calls X C) (kinds : Kinds L S) (turns : ℕ) (node : NodeView X C) (taps : List TapView) (pens inked : List PenView) (sinks : List S) (dealt : List (List (List ℕ))) (left : NodeEnds) (h : Hosted P L)
+    → HasNewEnds node taps pens → length sinks ≡ PAGES → HostsWith calls kinds node (zip taps sinks) turns left h → PensDrew (zip pens dealt) inked
+    → TakePrefixes h.feeds.items (map (λ (w : Worked L). w.tap) h.worked.items) → list_all (λ (w : Worked L). list_any is_close (kinds.entries w.list)) h.worked.items ≡ true → AllByRecursion (IsReceivedOf left.well.received) inked → IsWholeRun calls turns dealt node (map (λ (w : Worked L). kinds.entries w.list) h.worked.items)
 unfolding whole_host
-whole_run {P} {L} calls kinds turns node taps pens inked sinks dealt well h ends count (x, well_is) drew takes closed parts = record {
-  host = whole_host calls kinds turns node taps pens sinks well h ends count (x, well_is) takes closed;
-  draws = λ pen bodies below at. subst (λ (v : WellView). IsPrefix (strokes_of pen v.received) (map (stroke_of pen) bodies)) well_is (draws_at node taps pens inked dealt well ends drew parts pen bodies below at);
+whole_run {P} {L} calls kinds turns node taps pens inked sinks dealt left h ends count (x, well_is, control_is) drew takes closed parts = record {
+  host = whole_host calls kinds turns node taps pens sinks left h ends count (x, well_is, control_is) takes closed;
+  draws = λ pen bodies below at. subst (λ (v : WellView). IsPrefix (strokes_of pen v.received) (map (stroke_of pen) bodies)) well_is (draws_at node taps pens inked dealt left.well ends drew parts pen bodies below at);
 }
 
 -- where a run has no fault it came to its end
@@ -167,14 +168,14 @@ without_fault (Err Wire) false A none holds = cc
 without_fault (Err Turns) false A none holds = cc
 
 -- and what was printed is what its workers took, by its own member
-pub printed_run : {P L S X C : Type 0} (calls : Calls X C) (kinds : Kinds L S) (turns : ℕ) (node : NodeView X C) (taps : List TapView) (pens inked : List PenView) (sinks : List S) (dealt : List (List (List ℕ))) (well : WellView) (h : Hosted P L) (before after : Option (List ℕ)) (me : ℕ)
-    → HasNewEnds node taps pens → length sinks ≡ PAGES → HostsWith calls kinds node (zip taps sinks) turns well h → PensDrew (zip pens dealt) inked
-    → TakePrefixes h.feeds.items (map (λ (w : Worked L). w.tap) h.worked.items) → list_all (λ (w : Worked L). list_any is_close (kinds.entries w.list)) h.worked.items ≡ true → AllByRecursion (IsReceivedOf well.received) inked → me ≡ h.journal.start.config.me
+pub printed_run : {P L S X C : Type 0} (calls : Calls X C) (kinds : Kinds L S) (turns : ℕ) (node : NodeView X C) (taps : List TapView) (pens inked : List PenView) (sinks : List S) (dealt : List (List (List ℕ))) (left : NodeEnds) (h : Hosted P L) (before after : Option (List ℕ)) (me : ℕ)
+    → HasNewEnds node taps pens → length sinks ≡ PAGES → HostsWith calls kinds node (zip taps sinks) turns left h → PensDrew (zip pens dealt) inked
+    → TakePrefixes h.feeds.items (map (λ (w : Worked L). w.tap) h.worked.items) → list_all (λ (w : Worked L). list_any is_close (kinds.entries w.list)) h.worked.items ≡ true → AllByRecursion (IsReceivedOf left.well.received) inked → me ≡ h.journal.start.config.me
     → Appends before after (taken_text me (map (λ (w : Worked L). kinds.entries w.list) h.worked.items))
     → (whole : IsWholeRun calls turns dealt node (map (λ (w : Worked L). kinds.entries w.list) h.worked.items)) × Appends before after (taken_text whole.host.last.journal.start.config.me (map (λ (w : Worked L). kinds.entries w.list) h.worked.items))
 unfolding whole_run whole_host
-printed_run {P} {L} calls kinds turns node taps pens inked sinks dealt well h before after me ends count (x, well_is) drew takes closed parts of printed = (
-  whole_run calls kinds turns node taps pens inked sinks dealt well h ends count (x, well_is) drew takes closed parts,
+printed_run {P} {L} calls kinds turns node taps pens inked sinks dealt left h before after me ends count (x, well_is, control_is) drew takes closed parts of printed = (
+  whole_run calls kinds turns node taps pens inked sinks dealt left h ends count (x, well_is, control_is) drew takes closed parts,
   subst (λ (m : ℕ). Appends before after (taken_text m (map (λ (w : Worked L). kinds.entries w.list) h.worked.items))) (of ∙ ap (λ (j : Journal). j.start.config.me) x.journal) printed,
 )
 

@@ -19,8 +19,7 @@ pub record HasNewEnds {X C : Type 0} (node : NodeView X C) (taps : List TapView)
   pub count : length pens ≡ PENS
   pub new_pens : AreNewPens node.well.well pens
 
--- A node with these settings that did nothing yet and is to leave from a moment on, over this wire, of which no call failed and which told so much, and
--- its ends.
+-- A node with these settings that did nothing yet and is to leave from a moment on, and its ends. No call of its wire failed, and the wire told so much.
 pub record IsNewStation {X C : Type 0} (config : Config) (stay : ℕ) (told : Option Told) (wire : X) (node : NodeView X C) (taps : List TapView) (pens : List PenView) : Type 0 where
   pub new : IsNewNode config node.feeds node.well 0 told wire (record node { asked = None })
   pub asked : node.asked ≡ Some stay

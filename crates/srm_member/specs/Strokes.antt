@@ -1,14 +1,19 @@
 -- What a producer draws.
 use Rattle.std.specs.Prelude.{◌≡◌, ℕ, List, [], ◌∷◌, ◌++◌, map}
 use Rattle.std.specs.List.{zip}
+use Rattle.srm_names.specs.declared.page.Page.{Page}
 use Rattle.srm_names.specs.Names.{first_page}
 use Rattle.srm_pages.specs.declared.stroke.Stroke.{Stroke}
 use Rattle.srm_pages.specs.Ends.{PenView}
 use Rattle.srm_member.specs.declared.pens.PenThread.{PenThread}
 
--- the stroke with this body, of the producer at this place, on the first page
+-- the stroke with this body, of the producer at this place, on a page
+abbrev pub stroke_on : Page → ℕ → List ℕ → Stroke
+stroke_on page pen body = record { pen = pen; page = page; body = body }
+
+-- on the first page
 abbrev pub stroke_of : ℕ → List ℕ → Stroke
-stroke_of pen body = record { pen = pen; page = first_page; body = body }
+stroke_of pen body = stroke_on first_page pen body
 
 -- The producer sent all of these bodies but those that are left behind them, each once and in order.
 pub record PenSentAllBut (bodies left : List (List ℕ)) (old new : PenView) : Type 0 where

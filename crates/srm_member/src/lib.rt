@@ -31,7 +31,7 @@ mod station;
 pub use dealing::deal;
 pub use fault::MemberFault;
 pub use joining::{join_pens, settle_lanes};
-pub use pens::{Waking, send_stroke, wake};
+pub use pens::{Waking, send_stroke, share_waker, wake};
 pub use replying::print_reply;
 pub use running::{run_node, run_station};
 pub use station::{Ran, Station, host_if};

@@ -2,7 +2,7 @@
 
 ghost use Rattle.std.specs.Prelude.{◌≡◌, ◌+◌, ◌<◌, ◌≤◌, [], ◌∷◌, ◌++◌, map, length, vec_len, vec_capacity, IfOk, IfSome};
 ghost use Rattle.std.specs.Bool.{OnTrue, OnFalse};
-ghost use Rattle.srm_member.specs.Strokes.{stroke_of, PenSentPrefix, PensDrew, pens_with, pen_and_bodies};
+ghost use Rattle.srm_member.specs.Strokes.{stroke_on, PenSentPrefix, PensDrew, pens_with, pen_and_bodies};
 
 use bytes::Bytes;
 use srm_names::Page;
@@ -224,7 +224,7 @@ fn draw_all<R: time::Clock + Wait>(
 {
     let mut pen = pen;
     for body in bodies {
-        if !send_stroke(rt, &mut pen, body, ended, waker) {
+        if !send_stroke(rt, &mut pen, Page::first(), body, ended, waker) {
             break;
         }
     }
@@ -234,23 +234,24 @@ fn draw_all<R: time::Clock + Wait>(
     inked
 }
 
-/// Sends a stroke with this body on page 0.0, and returns whether it was sent.
+/// Sends a stroke with this body on a page, and returns whether it was sent.
 ///
 /// While the queue is full it tries again, after 50 microseconds at first and 6,400 at most, until `ended` is set; then nothing was sent. So it waits as long as the
 /// rate keeps strokes back, and for ever if the node ended and nobody sets `ended`. It ends a pause of the node. The node drops a body of more than 1,024 bytes.
 pub fn send_stroke<R: time::Clock + Wait>(
     rt: &R,
     pen: &mut Pen,
+    page: Page,
     body: Bytes,
     ended: &AtomicBool,
     waker: &Waking,
 ) -> bool
-    ensures sent { OnTrue result (pen.new ≡ record pen.old { sent = pen.old.sent ++ stroke_of pen.old.number body ∷ [] }) }
+    ensures sent { OnTrue result (pen.new ≡ record pen.old { sent = pen.old.sent ++ stroke_on page pen.old.number body ∷ [] }) }
     ensures ended { OnFalse result (pen.new ≡ pen.old) }
 {
     let mut stroke = Stroke {
         pen: pen.number(),
-        page: Page::first(),
+        page,
         body,
     };
     let mut wait = FIRST_WAIT;

@@ -97,11 +97,7 @@ where
     ensures { OnOk result ((took : List (List AMessage)) × (whole : IsWholeRun (calls_of NeverFalls X.receives X.sends X.pauses) turns (map (λ bodies. bodies.items) dealt.items) station.node.view took)
         × Appends (O.contents out.old) (O.contents out.new) (taken_text whole.host.last.journal.start.config.me took)) }
 {
-    let Ran {
-        hosted,
-        mut well,
-        pens,
-    } = station.run_whole(rt, alloc, dealt, turns)?;
+    let Ran { hosted, ends, pens } = station.run_whole(rt, alloc, dealt, turns)?;
     let Hosted {
         journal,
         feeds,
@@ -113,6 +109,7 @@ where
         None => {
             print_taken(alloc, out, journal.start().config.me(), worked.as_slice())?;
             settle_lanes(feeds, worked);
+            let mut well = ends.well;
             join_pens(&mut well, pens);
             Ok(())
         }

@@ -6,7 +6,7 @@ ghost use Rattle.srm_pages.specs.Ends.{AreNewPens};
 ghost use Rattle.srm_node.specs.Nodes.{AreNewFeeds};
 ghost use Rattle.std.specs.IoError.{error_kind};
 ghost use Rattle.srm_node.specs.Calls.{calls_of};
-ghost use Rattle.srm_node.specs.Hosting.{kinds_of, starts_of, Hosts, HostsWith, HostFails, HostFailsWith, SameWell, AreEndsOfLanes};
+ghost use Rattle.srm_node.specs.Hosting.{kinds_of, starts_of, Hosts, HostsWith, HostFails, HostFailsWith, SameWell, SameLines, AreEndsOfLanes};
 ghost use Rattle.srm_udp.specs.Clocks.{NeverFalls};
 ghost use Rattle.srm_guarded.specs.Guarding.{guarded_wire};
 ghost use Rattle.srm_member.specs.Sinks.{NeverStops};
@@ -24,13 +24,13 @@ use srm_agent::{Config, Entry};
 use srm_guard::{Guard, Key};
 use srm_guarded::{Guarded, Published, bind_guarded};
 use srm_names::PageMsg;
-use srm_node::{Hosted, Node, PageSink, host_with_well};
+use srm_node::{Hosted, Node, NodeEnds, PageSink, host_with_ends};
 use srm_options::NodeOptions;
 use srm_pages::ends::Well;
 use srm_pages::{Feed, Inked, Pen, Tap, lanes, well};
 use srm_script::ScriptFault;
 use srm_timers::Pcg;
-use srm_udp::{SystemClock, UdpWire};
+use srm_udp::{Rested, SystemClock, UdpWire};
 use srm_wire::Wire;
 use srm_world::{Forgotten, Past};
 use std::alloc::{AllocError, Global};
@@ -57,7 +57,11 @@ pub struct Station<
     pub waker: Waking,
 }
 
-impl<R: time::Clock + Copy + Drop> Station<R, Guard<UdpWire>, Published<Forgotten<Entry>>> {
+impl<R: time::Clock + Copy + Drop> Station<
+    R,
+    Rested<R, Guard<UdpWire>>,
+    Published<Forgotten<Entry>>,
+> {
     /// Binds a member to its own address, with the guard that its options ask for, and `key` as [`read_key`](srm_guarded::read_key) returns it for them: without it
     /// nothing is tagged or checked, even if the options name a key file. The node keeps no entry, and leaves `stay` microseconds after its start. `linger`, `live`
     /// and `turns` aren't used.
@@ -69,7 +73,7 @@ impl<R: time::Clock + Copy + Drop> Station<R, Guard<UdpWire>, Published<Forgotte
         alloc: Global,
         options: NodeOptions,
         key: Option<Key>,
-    ) -> Result<Station<R, Guard<UdpWire>, Published<Forgotten<Entry>>>, MemberFault>
+    ) -> Result<Station<R, Rested<R, Guard<UdpWire>>, Published<Forgotten<Entry>>>, MemberFault>
     where
         R: Net,
         ensures new { IfOk result (λ s. IsNewStation options.config options.stay None (guarded_wire options.addresses.items options.guard key) s.node.view s.taps.items s.pens.items) }
@@ -92,6 +96,7 @@ impl<R: time::Clock + Copy + Drop> Station<R, Guard<UdpWire>, Published<Forgotte
         };
         match bind_guarded(rt, alloc, config, &guard, key, addresses) {
             Ok(Guarded { wire, waker, known }) => {
+                let wire = Rested::new(*rt, wire);
                 let past = Published::new(alloc, Forgotten::new(), known);
                 Station::make(rt, alloc, config, seed, stay, wire, waker, past)
             }
@@ -157,7 +162,7 @@ impl<R: time::Clock + Copy + Drop, X: Wire + Drop, P: Past<Entry> + Drop> Statio
         Ok(ran.hosted)
     }
 
-    /// Does what [`run`](Station::run) does, and returns the node's stroke queue and the producers too. Each producer sent a prefix of its bodies. Fails as `run`
+    /// Does what [`run`](Station::run) does, and returns the node's ends of its stroke queue and its control, and the producers too. Each producer sent a prefix of its bodies. Fails as `run`
     /// does.
     pub fn run_whole<L: Past<PageMsg> + Send + Drop + 'static>(
         self,
@@ -169,10 +174,10 @@ impl<R: time::Clock + Copy + Drop, X: Wire + Drop, P: Past<Entry> + Drop> Statio
     where
         R: Threads + Wait + Send + 'static,
         requires { vec_len self.taps ≡ PAGES }
-        ensures hosts { IfOk result (λ r. (sinks : List Unseen) × (length sinks ≡ PAGES) × MatchResult r.hosted.end (λ _. HostsWith (calls_of NeverFalls X.receives X.sends X.pauses) (kinds_of L.appended L.is_refused NeverStops) self.node.view (starts_of self.taps.items sinks) turns r.well r.hosted)
-            (λ fault. (all : Bool) × HostFailsWith (calls_of NeverFalls X.receives X.sends X.pauses) (kinds_of L.appended L.is_refused NeverStops) all self.node.view (starts_of self.taps.items sinks) turns fault r.well r.hosted)) }
+        ensures hosts { IfOk result (λ r. (sinks : List Unseen) × (length sinks ≡ PAGES) × MatchResult r.hosted.end (λ _. HostsWith (calls_of NeverFalls X.receives X.sends X.pauses) (kinds_of L.appended L.is_refused NeverStops) self.node.view (starts_of self.taps.items sinks) turns r.ends r.hosted)
+            (λ fault. (all : Bool) × HostFailsWith (calls_of NeverFalls X.receives X.sends X.pauses) (kinds_of L.appended L.is_refused NeverStops) all self.node.view (starts_of self.taps.items sinks) turns fault r.ends r.hosted)) }
         ensures lanes { IfOk result (λ r. IfOk r.hosted.end (λ _. AreEndsOfLanes self.node.view.feeds self.taps.items → AreEndsOfLanes r.hosted.feeds.items (map (λ w. w.tap) r.hosted.worked.items))) }
-        ensures well { IfOk result (λ r. IfOk r.hosted.end (λ _. SameWell self.node.view.well r.well)) }
+        ensures well { IfOk result (λ r. IfOk r.hosted.end (λ _. SameWell self.node.view.well r.ends.well)) }
         ensures pens { IfOk result (λ r. PensDrew (pens_with self.pens.items (map (λ bodies. bodies.items) dealt.items)) r.pens.items) }
     {
         match Crew::new(alloc, share_waker(&self.waker)) {
@@ -196,10 +201,10 @@ impl<R: time::Clock + Copy + Drop, X: Wire + Drop, P: Past<Entry> + Drop> Statio
         requires taps { vec_len self.taps ≡ PAGES }
         requires sinks { vec_len crew.sinks ≡ PAGES }
         requires threads { crew.threads ≡ [] }
-        ensures hosts { IfOk result (λ r. MatchResult r.hosted.end (λ _. HostsWith (calls_of NeverFalls X.receives X.sends X.pauses) (kinds_of L.appended L.is_refused NeverStops) self.node.view (starts_of self.taps.items crew.sinks.items) turns r.well r.hosted)
-            (λ fault. (all : Bool) × HostFailsWith (calls_of NeverFalls X.receives X.sends X.pauses) (kinds_of L.appended L.is_refused NeverStops) all self.node.view (starts_of self.taps.items crew.sinks.items) turns fault r.well r.hosted)) }
+        ensures hosts { IfOk result (λ r. MatchResult r.hosted.end (λ _. HostsWith (calls_of NeverFalls X.receives X.sends X.pauses) (kinds_of L.appended L.is_refused NeverStops) self.node.view (starts_of self.taps.items crew.sinks.items) turns r.ends r.hosted)
+            (λ fault. (all : Bool) × HostFailsWith (calls_of NeverFalls X.receives X.sends X.pauses) (kinds_of L.appended L.is_refused NeverStops) all self.node.view (starts_of self.taps.items crew.sinks.items) turns fault r.ends r.hosted)) }
         ensures lanes { IfOk result (λ r. IfOk r.hosted.end (λ _. AreEndsOfLanes self.node.view.feeds self.taps.items → AreEndsOfLanes r.hosted.feeds.items (map (λ w. w.tap) r.hosted.worked.items))) }
-        ensures well { IfOk result (λ r. IfOk r.hosted.end (λ _. SameWell self.node.view.well r.well)) }
+        ensures well { IfOk result (λ r. IfOk r.hosted.end (λ _. SameWell self.node.view.well r.ends.well)) }
         ensures pens { IfOk result (λ r. PensDrew (pens_with self.pens.items (map (λ bodies. bodies.items) dealt.items)) r.pens.items) }
     {
         let Station {
@@ -213,19 +218,19 @@ impl<R: time::Clock + Copy + Drop, X: Wire + Drop, P: Past<Entry> + Drop> Statio
         let hosted = host_if(rt, alloc, all, node, taps, sinks, turns);
         let pens = threads.end(rt);
         match hosted {
-            Some((hosted, well)) => Ok(Ran { hosted, well, pens }),
+            Some((hosted, ends)) => Ok(Ran { hosted, ends, pens }),
             None => Err(MemberFault::Script(ScriptFault::Memory)),
         }
     }
 }
 
-/// What became of a station's run: its node with its workers, the node's stroke queue, and its producers, which are done.
+/// What became of a station's run: its node with its workers, the node's ends, and its producers, which are done.
 #[derive(Drop)]
 pub struct Ran<P: Past<Entry> + Drop = Vec<Entry>, L: Past<PageMsg> + Drop = Vec<PageMsg>> {
     /// What became of the node and its workers.
     pub hosted: Hosted<P, L>,
-    /// The node's stroke queue.
-    pub well: Well,
+    /// The node's ends of its stroke queue and its control.
+    pub ends: NodeEnds,
     /// The producers, which are done, by number.
     pub pens: Vec<Inked>,
 }
@@ -347,7 +352,7 @@ impl Crew {
     }
 }
 
-/// Runs the node as [`host_with_well`] does if `started`. Pass whether each thread that draws for it was started. Returns `None`, and drops the node, if not, or if
+/// Runs the node as [`host_with_ends`] does if `started`. Pass whether each thread that draws for it was started. Returns `None`, and drops the node, if not, or if
 /// memory ran out before any worker was started.
 pub fn host_if<R, X, P, S, L>(
     rt: &R,
@@ -357,7 +362,7 @@ pub fn host_if<R, X, P, S, L>(
     taps: Vec<Tap>,
     sinks: Vec<S>,
     turns: u64,
-) -> Option<(Hosted<P, L>, Well)>
+) -> Option<(Hosted<P, L>, NodeEnds)>
 where
     R: time::Clock + Threads + Wait + Copy + Send + Drop + 'static,
     X: Wire + Drop,
@@ -370,12 +375,13 @@ where
     ensures hosts { IfSome result (λ r. MatchResult r.0.end (λ _. HostsWith (calls_of NeverFalls X.receives X.sends X.pauses) (kinds_of L.appended L.is_refused S.sees) node.view (starts_of taps.items sinks.items) turns r.1 r.0)
         (λ fault. (all : Bool) × HostFailsWith (calls_of NeverFalls X.receives X.sends X.pauses) (kinds_of L.appended L.is_refused S.sees) all node.view (starts_of taps.items sinks.items) turns fault r.1 r.0)) }
     ensures lanes { IfSome result (λ r. IfOk r.0.end (λ _. AreEndsOfLanes node.view.feeds taps.items → AreEndsOfLanes r.0.feeds.items (map (λ w. w.tap) r.0.worked.items))) }
-    ensures well { IfSome result (λ r. IfOk r.0.end (λ _. SameWell node.view.well r.1)) }
+    ensures well { IfSome result (λ r. IfOk r.0.end (λ _. SameWell node.view.well r.1.well)) }
+    ensures control { IfSome result (λ r. IfOk r.0.end (λ _. SameLines node.view.control r.1.commands)) }
 {
     if !started {
         return None;
     }
-    match host_with_well(rt, alloc, node, taps, sinks, turns) {
+    match host_with_ends(rt, alloc, node, taps, sinks, turns) {
         Ok(hosted) => Some(hosted),
         Err(_) => None,
     }

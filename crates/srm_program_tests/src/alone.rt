@@ -15,7 +15,7 @@ fn a_member_stays_as_long_as_it_is_told(rt: HostRuntime) -> Result<(), Fail> {
     Ok(())
 }
 
-// Each of the four pens has one of the first four lines, and the first pen the fifth too, behind the first.
+// Each of the four producers has one of the first four lines, and the first producer the fifth too, behind the first.
 #[test]
 fn a_pen_keeps_the_order_of_its_lines(rt: HostRuntime) -> Result<(), Fail> {
     let ran = run_alone(&rt, b"one\ntwo\nthree\nfour\nfive\n")?;

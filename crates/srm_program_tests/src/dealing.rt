@@ -1,4 +1,4 @@
-//! How lines are dealt to pens.
+//! How lines are dealt to producers.
 
 use srm_member::deal;
 use std::test::Fail;

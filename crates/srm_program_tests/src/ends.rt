@@ -1,4 +1,4 @@
-//! What ends a run, and with which text and status.
+//! What ends a run, and its text and status.
 
 use srm_member::MemberFault;
 use srm_names::{Page, PageMsg};

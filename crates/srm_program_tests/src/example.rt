@@ -39,7 +39,7 @@ fn strokes(alloc: Global, printed: &str) -> Result<Vec<&str>, AllocError> {
     Ok(strokes)
 }
 
-/// The strokes as the example prints them, without their numbers, each behind its source: between pens there is no order.
+/// The strokes as the example prints them, without their numbers, each behind its source: between producers there is no order.
 fn unnumbered(alloc: Global, strokes: &[&str]) -> Result<String, AllocError> {
     let mut lines = Vec::new(alloc);
     for stroke in strokes {

@@ -12,7 +12,7 @@ use std::sync::{Arc, Wait};
 use std::test::Fail;
 use std::thread::Threads;
 use std::time::Clock;
-use std::{fs, io};
+use std::{env, fs, io};
 
 /// A session message of member 0 in session 7, sent at 0, that tells of no stroke.
 const HELLO: &[u8] = &[
@@ -31,7 +31,7 @@ const FORGED: &[u8] = &[
     0xd5, 0xac, 0xba, 0x23, 0x51, 0x43, 0xdb, 0x78, 0xb1, 0xda, 0x14, 0x2d, 0xba, 0x90, 0xfb, 0x63,
 ];
 
-/// A session message of member 0 that tells of its own stroke 3 on the first page, and one that tells of stroke 5.
+/// A session message of member 0 that tells of the member's stroke 3 on the first page, and one that tells of stroke 5.
 const THREE: &[u8] = &[
     0x53, 0x52, 1, 4, 0, 0, 0, 7, 0, 0, 0, 0, 0, 0, 0, 0, 0, 0, 0, 0, 0, 1, // message
     0, 0, 0, 0, 0, 0, 0, 3, 0, // row, and no echo
@@ -172,8 +172,9 @@ fn what_has_no_right_tag_is_dropped(rt: HostRuntime) -> Result<(), Fail> {
     for (number, byte) in (0..32).zip(key.iter_mut()) {
         *byte = number;
     }
-    let path = format!(in rt.alloc(); "/tmp/srm-key-{}", crate::rig::free_port(&rt)?)?;
-    fs::write(&rt, path.as_str(), key.as_slice())?;
+    let name = format!(in rt.alloc(); "srm-key-{}", crate::rig::free_port(&rt)?)?;
+    let path = env::temp_dir(&rt)?.join(rt.alloc(), name.as_str())?;
+    fs::write(&rt, path.as_path(), key.as_slice())?;
     let comes = &[
         Come::Known(HELLO),
         Come::Known(FORGED),
@@ -187,9 +188,9 @@ fn what_has_no_right_tag_is_dropped(rt: HostRuntime) -> Result<(), Fail> {
         UNTAGGED,
         "srm: dropped: outside the roster 1, no right tag 2\n",
     ];
-    let words = format!(in rt.alloc(); " --key {path}")?;
+    let words = format!(in rt.alloc(); " --key {}", path.as_str())?;
     assert_tells(&rt, words.as_str(), comes, &lines)?;
-    fs::remove_file(&rt, path.as_str())?;
+    fs::remove_file(&rt, path.as_path())?;
     Ok(())
 }
 

@@ -55,7 +55,7 @@ fn assert_front<R: Abort + AllocGlobal>(
     Ok(())
 }
 
-/// A member ended well, and its worker took so many drawops of its own.
+/// A member ended well, and its worker took so many of the member's drawops.
 fn assert_ended<R: Abort + AllocGlobal>(
     rt: &R,
     hosted: &Hosted,
@@ -68,7 +68,7 @@ fn assert_ended<R: Abort + AllocGlobal>(
     Ok(())
 }
 
-/// Three members ended well, each of which drew so many, and each took of each other what `assert_front` says.
+/// Three members ended well. Each drew so many, and took of each other what `assert_front` says.
 pub(crate) fn assert_three<R: Abort + AllocGlobal>(
     rt: &R,
     members: &[Hosted],

@@ -1,7 +1,7 @@
 //! What the cases of `tests/program` can't show of the program: how command lines are read, streams that fail, what is printed while it runs, and members in
 //! threads over sockets of this machine.
 //!
-//! The tests stand in a crate of their own: what they call is proved once, and not a second time with them.
+//! The tests have their own crate: what they call is proved once, and not a second time with them.
 #![tactic(auto)]
 
 #[cfg(test)]
@@ -16,6 +16,8 @@ mod ends;
 mod example;
 #[cfg(test)]
 mod guarding;
+#[cfg(test)]
+mod idling;
 #[cfg(test)]
 mod judging;
 #[cfg(test)]
@@ -46,6 +48,8 @@ mod staying;
 mod streams;
 #[cfg(test)]
 mod three;
+#[cfg(test)]
+mod turning;
 #[cfg(test)]
 mod waiting;
 #[cfg(test)]

@@ -1,4 +1,4 @@
-//! How long a live member lingers that others may still need.
+//! How long a live member lingers that others may still need, or that misses something.
 
 use crate::lives::{keep_in, streams};
 use crate::rig::{bound, options_of};
@@ -6,7 +6,7 @@ use mio::net::UdpSocket;
 use srm_codec::{Datagram, decode};
 use srm_live::run_live;
 use srm_options::read_node;
-use srm_rig::datagrams::request;
+use srm_rig::datagrams::{Kind, request, word};
 use std::alloc::{AllocError, Global};
 use std::net::{Net, SocketAddr};
 use std::rt::Files;
@@ -23,6 +23,9 @@ const SESSION: u32 = 7;
 const REQUESTS: u32 = 15;
 
 const BETWEEN: u64 = 100_000;
+
+/// So many microseconds after its second stroke the other member sends its first one. Else the member would have left by then.
+const OWED: u64 = 4_000_000;
 
 /// For so many microseconds the member lingers.
 const LINGER: u64 = 400_000;
@@ -49,27 +52,30 @@ fn a_live_member_lingers_where_nobody_says_else(rt: HostRuntime) -> Result<(), F
     Ok(())
 }
 
-/// What the other member heard before the farewell: how long it hadn't asked for anything, and how many session messages.
+/// What the other member sent and heard before the farewell: how many datagrams, how long ago the last one, and how many session messages.
 #[derive(Clone, Copy)]
 struct Heard {
+    sent: u32,
     quiet: Duration,
     sessions: u32,
 }
 
-/// The other member, which asks for the first stroke again and again from when it came on, and then listens until the farewell.
+/// The other member. From when the first stroke came on it asks for that again and again or, if it owes strokes, sends its second one and later its first one. Then it
+/// listens until the farewell.
 #[derive(Drop)]
-struct Asker<R: Clock + Wait + Drop> {
+struct Other<R: Clock + Wait + Drop> {
     rt: R,
     alloc: Global,
     socket: UdpSocket,
     to: SocketAddr,
+    owes: bool,
     has_stroke: bool,
-    requests: u32,
-    asked: Instant,
+    sent: u32,
+    sent_at: Instant,
     sessions: u32,
 }
 
-impl<R: Clock + Wait + Drop> Asker<R> {
+impl<R: Clock + Wait + Drop> Other<R> {
     /// Hears what came. Whether a farewell did.
     fn hear(&mut self) -> bool {
         let mut buffer = [0; 4_096];
@@ -87,35 +93,52 @@ impl<R: Clock + Wait + Drop> Asker<R> {
         false
     }
 
-    /// Asks once more, if it is time. None where the clock can't be read.
-    fn ask(&mut self) -> Option<()> {
-        let passed = self.asked.elapsed(&self.rt).ok()?;
-        if self.has_stroke && self.requests < REQUESTS && passed >= Duration::from_micros(BETWEEN) {
-            let _ = self.socket.send_to(&request(1, 0, 0, 1), self.to);
-            self.requests = self.requests.saturating_add(1);
-            self.asked = Instant::now(&self.rt).ok()?;
+    /// How many datagrams it sends in all, and how many microseconds lie between the last one and the next.
+    fn pace(&self) -> (u32, u64) {
+        match (self.owes, self.sent) {
+            (true, 0) => (2, 0),
+            (true, _) => (2, OWED),
+            (false, _) => (REQUESTS, BETWEEN),
         }
+    }
+
+    /// Sends the next datagram, if it is time. None where the clock can't be read.
+    fn send(&mut self) -> Option<()> {
+        let (most, between) = self.pace();
+        let passed = self.sent_at.elapsed(&self.rt).ok()?;
+        if !self.has_stroke || self.sent >= most || passed < Duration::from_micros(between) {
+            return Some(());
+        }
+        let _ = if self.owes {
+            let stroke = word(Kind::Data, 1, 1, 0, most.saturating_sub(self.sent));
+            self.socket.send_to(&stroke, self.to)
+        } else {
+            self.socket.send_to(&request(1, 0, 0, 1), self.to)
+        };
+        self.sent = self.sent.saturating_add(1);
+        self.sent_at = Instant::now(&self.rt).ok()?;
         Some(())
     }
 
-    /// Asks and hears until the farewell came, for 20 seconds at most.
+    /// Sends and hears until the farewell came, for 20 seconds at most.
     fn run(mut self) -> Option<Heard> {
         for _ in 0..4_000 {
             if self.hear() {
                 return Some(Heard {
-                    quiet: self.asked.elapsed(&self.rt).ok()?,
+                    sent: self.sent,
+                    quiet: self.sent_at.elapsed(&self.rt).ok()?,
                     sessions: self.sessions,
                 });
             }
-            self.ask()?;
+            self.send()?;
             thread::sleep(&self.rt, Duration::from_micros(5_000));
         }
         None
     }
 }
 
-/// Runs a live member with one stroke beside one that asks for it. Its status, and what the other heard.
-fn run_beside<R>(rt: &R, linger: u64) -> Result<(u8, Option<Heard>), Fail>
+/// Runs a live member with one stroke beside another one. Its status, and what the other heard.
+fn run_beside<R>(rt: &R, linger: u64, owes: bool) -> Result<(u8, Option<Heard>), Fail>
 where
     R: Net + Files + Clock + Threads + Wait + AllocGlobal + Copy + Send + Drop + 'static,
 {
@@ -127,27 +150,28 @@ where
         "--session {SESSION} --me 0 --live --stay 0 --linger {linger} {to} {other}"
     )?;
     let options = options_of(alloc, line.as_str()).ok_or("options")?;
-    let asker = Asker {
+    let beside = Other {
         rt: *rt,
         alloc,
         socket,
         to,
+        owes,
         has_stroke: false,
-        requests: 0,
-        asked: Instant::now(rt)?,
+        sent: 0,
+        sent_at: Instant::now(rt)?,
         sessions: 0,
     };
-    let asking = thread::spawn(rt, move || asker.run())?;
+    let beside = thread::spawn(rt, move || beside.run())?;
     let input: &'static [u8] = b"one\n";
     let (_, err) = streams(alloc, false)?;
     let to_err = keep_in(rt, &err, false)?;
     let status = run_live(rt, options, input, Vec::new(alloc), to_err);
-    Ok((status, asking.join(rt)))
+    Ok((status, beside.join(rt)))
 }
 
 #[test]
 fn a_live_member_stays_while_it_is_asked(rt: HostRuntime) -> Result<(), Fail> {
-    let (status, heard) = run_beside(&rt, LINGER)?;
+    let (status, heard) = run_beside(&rt, LINGER, false)?;
     assert_eq!(rt; status, 0);
     let heard = heard.ok_or("no farewell")?;
     assert!(rt; heard.quiet >= Duration::from_micros(LINGER));
@@ -156,10 +180,20 @@ fn a_live_member_stays_while_it_is_asked(rt: HostRuntime) -> Result<(), Fail> {
 }
 
 #[test]
+fn a_live_member_stays_while_it_misses_a_stroke(rt: HostRuntime) -> Result<(), Fail> {
+    let (status, heard) = run_beside(&rt, LINGER, true)?;
+    assert_eq!(rt; status, 0);
+    let heard = heard.ok_or("no farewell")?;
+    assert_eq!(rt; heard.sent, 2);
+    assert!(rt; heard.quiet >= Duration::from_micros(LINGER));
+    Ok(())
+}
+
+#[test]
 fn a_live_member_that_does_not_linger_leaves_though_it_is_asked(
     rt: HostRuntime,
 ) -> Result<(), Fail> {
-    let (status, heard) = run_beside(&rt, 0)?;
+    let (status, heard) = run_beside(&rt, 0, false)?;
     assert_eq!(rt; status, 0);
     let heard = heard.ok_or("no farewell")?;
     assert!(rt; heard.quiet < Duration::from_micros(LINGER));

@@ -44,7 +44,7 @@ impl<R: Wait + Drop> Write for Kept<R> {
     }
 }
 
-/// An output of which nothing is seen before it is flushed. It takes so many bytes in all, of which so many can be seen, and then is closed.
+/// An output that shows nothing before it is flushed. It takes so many bytes in all, shows so many of them, and then is closed.
 #[derive(Drop)]
 pub(crate) struct Output<R: Wait + Drop> {
     rt: R,
@@ -172,7 +172,7 @@ impl<R: Clock + Wait + Drop> Read for Hand<R> {
     }
 }
 
-/// What a live member is given: these words before its address and these behind it, three lines, of which the later ones wait for a text in the output,
+/// What a live member is given: these words before its address and these behind it, three lines (the later ones wait for a text in the output),
 /// how the input then ends, how much its output takes and how much of it can be seen, and whether both streams are one terminal.
 #[derive(Clone, Copy)]
 pub(crate) struct Given {

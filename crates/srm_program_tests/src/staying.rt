@@ -21,7 +21,7 @@ fn has_left(journal: &Journal) -> bool {
     })
 }
 
-/// Turns the station of a member once whose pens have nothing to draw. Its journal, or none where the turn was refused.
+/// Turns the station of a member once whose producers have nothing to draw. Its journal, or none where the turn was refused.
 fn turn_once<R: Clock + Wait + Copy + Drop>(rt: &R, station: Station<R>) -> Option<Journal> {
     let Station {
         mut node,

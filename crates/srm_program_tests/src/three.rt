@@ -1,4 +1,4 @@
-//! Three members over loopback, each in a thread of its own. All sockets are bound before any of them runs.
+//! Three members over loopback, each in its own thread. All sockets are bound before any of them runs.
 
 ghost use Rattle.std.specs.Prelude.{◌≡◌, vec_len};
 ghost use Rattle.srm_names.specs.declared.limits.TheConstants.{PAGES};
@@ -43,7 +43,7 @@ pub(crate) fn alike<'a>(options: &'a str, inputs: [&'a [u8]; 3]) -> [Role<'a>; 3
     ]
 }
 
-/// A member before it runs: its station, whose socket is bound, what its pens draw, and how often it turns.
+/// A member before it runs: its station, whose socket is bound, what its producers draw, and how often it turns.
 #[derive(Drop)]
 struct Entrant<R: Clock + Drop> {
     station: Station<R>,
@@ -135,7 +135,7 @@ fn join_all<R: Threads>(
     Ok(members)
 }
 
-/// Runs three members that have these sockets and send to these addresses, each in a thread of its own, until all have ended.
+/// Runs three members that have these sockets and send to these addresses, each in its own thread, until all have ended.
 pub(crate) fn run_over<R>(
     rt: &R,
     alloc: Global,

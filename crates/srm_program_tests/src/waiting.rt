@@ -52,7 +52,7 @@ fn wait_with<R: Net + Clock + Wait + Copy + Drop>(
     Ok(wait_of(rt, station).ok_or("a wait")?)
 }
 
-// The first word that number 1 starts is 15,492,934,433,077,865,799, as the tests of timers have it: 21,834 over a multiple of 200,001.
+// The first random number of seed 1 is 15,492,934,433,077,865,799, as the tests of timers have it: 21,834 over a multiple of 200,001.
 #[test]
 fn a_member_waits_as_its_line_says(rt: HostRuntime) -> Result<(), Fail> {
     for (words, least, greatest) in [

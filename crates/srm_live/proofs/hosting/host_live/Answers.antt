@@ -1,9 +1,10 @@
-use Rattle.std.proofs.Common.{◌∷◌, refl, sym, ◌∙◌, subst}
+use Rattle.std.proofs.Common.{◌≡◌, ◌∷◌, refl, sym, ◌∙◌, subst}
 use Rattle.srm_node.specs.Calls.{calls_of}
 use Rattle.srm_node.specs.Hosting.{kinds_of}
+use Rattle.srm_control.specs.Ends.{ControlView}
 use Rattle.srm_udp.specs.Clocks.{NeverFalls}
 use Rattle.srm_live.specs.LiveRuns.{HaveTyped}
-use Rattle.srm_live.proofs.LiveRuns.{lanes_if, typed_all, if_some, some_is, live_pens, live_run}
+use Rattle.srm_live.proofs.LiveRuns.{lanes_if, typed_all, typed_as, if_some, some_is, live_pens, live_lines, live_run}
 use Rattle.srm_live.proofs.hosting.host_live.Goals as goal
 
 pub settle-requires-clause-lanes : goal.settle-requires-clause-lanes
@@ -13,22 +14,32 @@ pub settle-requires-clause-pens : goal.settle-requires-clause-pens
 settle-requires-clause-pens g c =
     let known = g.I.Read.remaining c.args.reader in
     let pens = c.args.station.pens.items in
-    if_some c.join_typing-typed.result (λ p. HaveTyped known pens p.first p.others.items) _
-    (typed_all c.start_typing-typing.result c.join_typing-typed.result _ _ (λ t p. HaveTyped (g.I.Read.remaining t.first.promise.1.value) (t.first.promise.0.value ∷ t.others.items) p.first p.others.items) (λ p. HaveTyped known pens p.first p.others.items)
-    c.join_typing-typed.ensures.none c.join_typing-typed.ensures.typed c.start_typing-typing.ensures.reader c.start_typing-typing.ensures.pens
-    (λ t p typed reader_is pens_are. subst (λ i. HaveTyped (g.I.Read.remaining i) pens p.first p.others.items) reader_is (subst (λ ps. HaveTyped (g.I.Read.remaining t.first.promise.1.value) ps p.first p.others.items) (sym pens_are) typed)))
-    (λ p typed. live_pens c.in-Some.hosted.end c.args.station.node.view c.args.station.taps.items pens c.in-Some.well known p.first p.others.items c.requires.new c.in-Some.ensures.well typed)
+    if_some c.join_typing-typed.result (λ p. HaveTyped known pens c.args.pages p.first p.others.items p.control) _
+    (typed_all c.start_typing-typing.result c.join_typing-typed.result _ _ (λ t p. HaveTyped (g.I.Read.remaining t.first.promise.1.value) (t.first.promise.0.value.pen ∷ t.others.items) t.first.promise.0.value.control p.first p.others.items p.control)
+    (λ p. HaveTyped known pens c.args.pages p.first p.others.items p.control) c.join_typing-typed.ensures.none c.join_typing-typed.ensures.typed c.start_typing-typing.ensures.reader c.start_typing-typing.ensures.pens
+    (λ t p typed reader_is ends. typed_as g.I.Read.remaining _ c.args.reader _ pens _ c.args.pages p.first p.others.items p.control reader_is ends.0 ends.1 typed))
+    (λ p typed. live_pens c.in-Some.hosted.end c.args.station.node.view c.args.station.taps.items pens c.in-Some.ends.well known c.args.pages p.first p.others.items p.control c.requires.new c.in-Some.ensures.well typed)
+
+pub settle-requires-clause-lines : goal.settle-requires-clause-lines
+settle-requires-clause-lines g c =
+    let known = g.I.Read.remaining c.args.reader in
+    let pens = c.args.station.pens.items in
+    if_some c.join_typing-typed.result (λ p. HaveTyped known pens c.args.pages p.first p.others.items p.control) _
+    (typed_all c.start_typing-typing.result c.join_typing-typed.result _ _ (λ t p. HaveTyped (g.I.Read.remaining t.first.promise.1.value) (t.first.promise.0.value.pen ∷ t.others.items) t.first.promise.0.value.control p.first p.others.items p.control)
+    (λ p. HaveTyped known pens c.args.pages p.first p.others.items p.control) c.join_typing-typed.ensures.none c.join_typing-typed.ensures.typed c.start_typing-typing.ensures.reader c.start_typing-typing.ensures.pens
+    (λ t p typed reader_is ends. typed_as g.I.Read.remaining _ c.args.reader _ pens _ c.args.pages p.first p.others.items p.control reader_is ends.0 ends.1 typed))
+    (λ p typed. live_lines c.in-Some.hosted.end c.args.station.node.view.control c.in-Some.ends.commands known pens c.args.pages p.first p.others.items p.control c.requires.control.1 c.in-Some.ensures.control typed)
 
 pub returns-in-Some : goal.returns-in-Some
 returns-in-Some g c = λ none.
     let known = g.I.Read.remaining c.args.reader in
     let pens = c.args.station.pens.items in
-    let (t, typed_is, first, others) = c.settle.ensures.pens none in
-    let typed : HaveTyped known pens t.first t.others.items =
-    some_is c.join_typing-typed.result t (λ p. HaveTyped known pens p.first p.others.items)
-    (typed_all c.start_typing-typing.result c.join_typing-typed.result _ _ (λ t p. HaveTyped (g.I.Read.remaining t.first.promise.1.value) (t.first.promise.0.value ∷ t.others.items) p.first p.others.items) (λ p. HaveTyped known pens p.first p.others.items)
-    c.join_typing-typed.ensures.none c.join_typing-typed.ensures.typed c.start_typing-typing.ensures.reader c.start_typing-typing.ensures.pens
-    (λ t p typed reader_is pens_are. subst (λ i. HaveTyped (g.I.Read.remaining i) pens p.first p.others.items) reader_is (subst (λ ps. HaveTyped (g.I.Read.remaining t.first.promise.1.value) ps p.first p.others.items) (sym pens_are) typed)))
+    let (t, typed_is, first, others, answers) = c.settle.ensures.pens none in
+    let typed : HaveTyped known pens c.args.pages t.first t.others.items t.control =
+    some_is c.join_typing-typed.result t (λ p. HaveTyped known pens c.args.pages p.first p.others.items p.control)
+    (typed_all c.start_typing-typing.result c.join_typing-typed.result _ _ (λ t p. HaveTyped (g.I.Read.remaining t.first.promise.1.value) (t.first.promise.0.value.pen ∷ t.others.items) t.first.promise.0.value.control p.first p.others.items p.control)
+    (λ p. HaveTyped known pens c.args.pages p.first p.others.items p.control) c.join_typing-typed.ensures.none c.join_typing-typed.ensures.typed c.start_typing-typing.ensures.reader c.start_typing-typing.ensures.pens
+    (λ t p typed reader_is ends. typed_as g.I.Read.remaining _ c.args.reader _ pens _ c.args.pages p.first p.others.items p.control reader_is ends.0 ends.1 typed))
     typed_is in
-    live_run (calls_of NeverFalls g.X.Wire.receives g.X.Wire.sends g.X.Wire.pauses) (kinds_of (λ l. l.items) _ g.S.PageSink.sees) c.args.turns c.args.station.node.view c.args.station.taps.items pens c.args.sinks.items _ c.in-Some.hosted _ _ known t.first t.others.items
-    c.requires.new (sym c.args.sinks.ok.0 ∙ c.requires.sinks) c.in-Some.ensures.hosts refl (c.settle.ensures.fault none) (c.settle.ensures.takes none) typed first others
+    live_run (calls_of NeverFalls g.X.Wire.receives g.X.Wire.sends g.X.Wire.pauses) (kinds_of (λ l. l.items) _ g.S.PageSink.sees) c.args.turns c.args.station.node.view c.args.station.taps.items pens c.args.pages c.args.sinks.items c.in-Some.ends c.in-Some.hosted _ _ known t.first t.others.items t.control
+    c.requires.new c.requires.control (sym c.args.sinks.ok.0 ∙ c.requires.sinks) c.in-Some.ensures.hosts c.in-Some.ensures.control refl (c.settle.ensures.fault none) (c.settle.ensures.takes none) typed first others answers

@@ -10,6 +10,6 @@ join_pens-requires c = subst (λ (w : WellView). AllByRecursion (λ (p : PenView
 
 pub returns-clause-pens : goal.returns-clause-pens
 returns-clause-pens c = (
-  received_of c.args.well c.join_pen.new.self c.args.typed.first c.join_pen.result c.join_pen.ensures.same c.join_pen.ensures.pen c.join_pen.ensures.part,
+  received_of c.args.ends.well c.join_pen.new.self c.args.typed.first c.join_pen.result c.join_pen.ensures.same c.join_pen.ensures.pen c.join_pen.ensures.part,
   subst (λ (w : WellView). AllByRecursion (IsReceivedOf w.received) c.args.typed.others.items) (c.join_pens.ensures.same ∙ c.join_pen.ensures.same) c.join_pens.ensures.parts,
 )

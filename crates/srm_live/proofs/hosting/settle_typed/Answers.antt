@@ -7,3 +7,6 @@ put_together-requires-clause-lanes g c = without_fault c.args.hosted.end _ _ (of
 
 pub put_together-requires-clause-pens : goal.put_together-requires-clause-pens
 put_together-requires-clause-pens g c = without_fault c.args.hosted.end _ _ (of_lists _ _ _ c.of_whole_run.ensures c.in-None.is) c.requires.pens
+
+pub put_together-requires-clause-lines : goal.put_together-requires-clause-lines
+put_together-requires-clause-lines g c = without_fault c.args.hosted.end _ _ (of_lists _ _ _ c.of_whole_run.ensures c.in-None.is) c.requires.lines

@@ -20,17 +20,17 @@ settle_lanes-requires g c =
 
 pub join_pens-requires : goal.join_pens-requires
 join_pens-requires g c =
-    let same : SameWell c.args.station.node.view.well c.in_ok-hosted.field-0.well =
+    let same : SameWell c.args.station.node.view.well c.in_ok-hosted.field-0.ends.well =
     without_fault c.in_ok-hosted.field-0.hosted.end _ _ (of_lists _ _ _ c.of_whole_run.ensures c.in-None.is) c.in_ok-hosted.ensures.well in
-    pens_of_well c.args.station.node.view c.args.station.taps.items c.args.station.pens.items c.in_ok-hosted.field-0.pens.items _ c.in_ok-hosted.field-0.well c.requires same c.in_ok-hosted.ensures.pens
+    pens_of_well c.args.station.node.view c.args.station.taps.items c.args.station.pens.items c.in_ok-hosted.field-0.pens.items _ c.in_ok-hosted.field-0.ends.well c.requires same c.in_ok-hosted.ensures.pens
 
-pub returns : goal.returns
-returns g c =
+pub returns-in_ok-print_taken-in-None : goal.returns-in_ok-print_taken-in-None
+returns-in_ok-print_taken-in-None g c =
     let (sinks, count, ran) = c.in_ok-hosted.ensures.hosts in
     let host = hosted_whole c.in_ok-hosted.field-0.hosted.end _ _ _ (of_lists _ _ _ c.of_whole_run.ensures c.in-None.is) ran in
-    let parts : AllByRecursion (IsReceivedOf c.in_ok-hosted.field-0.well.received) c.in_ok-hosted.field-0.pens.items = subst (λ (w : WellView). AllByRecursion (IsReceivedOf w.received) c.in_ok-hosted.field-0.pens.items) c.join_pens.ensures.same c.join_pens.ensures.parts in
+    let parts : AllByRecursion (IsReceivedOf c.in_ok-hosted.field-0.ends.well.received) c.in_ok-hosted.field-0.pens.items = subst (λ (w : WellView). AllByRecursion (IsReceivedOf w.received) c.in_ok-hosted.field-0.pens.items) c.join_pens.ensures.same c.join_pens.ensures.parts in
     let printed : Appends (g.O.Write.contents c.args.out.now) (g.O.Write.contents c.print_taken.new.out) (taken_text c.me.result (lists_of c.in_ok-hosted.field-0.hosted.worked.items)) =
     subst (λ ws. Appends (g.O.Write.contents c.args.out.now) (g.O.Write.contents c.print_taken.new.out) (taken_text c.me.result (lists_of ws))) c.as_slice-in-None.ensures.value c.in_ok-print_taken-in-None.ensures.printed in
-    let run = printed_run (calls_of NeverFalls g.X.Wire.receives g.X.Wire.sends g.X.Wire.pauses) (kinds_of (λ l. l.items) _ NeverStops) c.args.turns c.args.station.node.view c.args.station.taps.items c.args.station.pens.items c.in_ok-hosted.field-0.pens.items sinks _ c.in_ok-hosted.field-0.well c.in_ok-hosted.field-0.hosted
+    let run = printed_run (calls_of NeverFalls g.X.Wire.receives g.X.Wire.sends g.X.Wire.pauses) (kinds_of (λ l. l.items) _ NeverStops) c.args.turns c.args.station.node.view c.args.station.taps.items c.args.station.pens.items c.in_ok-hosted.field-0.pens.items sinks _ c.in_ok-hosted.field-0.ends c.in_ok-hosted.field-0.hosted
     _ _ c.me.result c.requires count host c.in_ok-hosted.ensures.pens c.settle_lanes.ensures (subst (λ ws. list_all has_close ws ≡ true) c.as_slice.ensures.value (lists_closed _ _ _ c.of_whole_run.ensures c.in-None.is)) parts (c.me.ensures ∙ ap (λ s. s.config.me) c.start.ensures) printed in
     (_, run.0, run.1)
