@@ -1,0 +1,11 @@
+mod Ordered
+mod Waits
+mod Alike
+mod Resting
+mod Reading
+mod Giving
+mod Levels
+mod Abreast
+mod Twins
+mod Replaying
+mod ReplayExample
