@@ -1,0 +1,4 @@
+pub mod Continuing
+pub mod Following
+pub mod Ordering
+pub mod Sessioned

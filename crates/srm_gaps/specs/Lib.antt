@@ -1,0 +1,4 @@
+pub mod Possible
+pub mod Gaps
+pub mod Orders
+pub mod Examples
