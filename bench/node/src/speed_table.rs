@@ -21,7 +21,7 @@ pub fn print(arguments: &Arguments) -> Result<(), String> {
     let line = moments::one_by_one(&arguments.program, BYTES)?;
     let [median, late] = [line.median, line.late].map(|it| it.as_secs_f64() * 1e3);
     println!(
-        "| a line typed by itself: milliseconds until both others took it, median | {median:.2} | | at most 1 |"
+        "| a single typed line: milliseconds until both others took it, median | {median:.2} | | at most 1 |"
     );
     println!("| the same: 99th of 100 | {late:.2} | | at most 3 |");
     let wakes = idle::wakes(&arguments.program, arguments.seconds)?;
