@@ -21,6 +21,19 @@ const SESSION: u32 = 7;
 /// Strokes on three pages; the last two are begun.
 const INPUT: &[u8] = b"one\n/new\ntwo\n/new\nthree\n";
 
+/// Whether a session message is a farewell, and the page that its sender shows. None of other datagrams.
+fn told(alloc: Global, bytes: &[u8]) -> Option<(bool, Page)> {
+    let datagram = decode(alloc, SESSION, bytes).ok()?;
+    match &datagram {
+        Datagram::Session {
+            farewell,
+            shown,
+            ..
+        } => Some((*farewell, *shown)),
+        _ => None,
+    }
+}
+
 /// The other member, which hears how often it is told of each of these pages, until the farewell.
 #[derive(Drop)]
 struct Listener<R: Clock + Wait + Drop> {
@@ -38,10 +51,11 @@ impl<R: Clock + Wait + Drop> Listener<R> {
             let Ok((count, _)) = self.socket.recv_from(&mut buffer) else {
                 return false;
             };
-            match decode(self.alloc, SESSION, &buffer[..count]) {
-                Ok(Datagram::Session { farewell: true, .. }) => return true,
-                Ok(Datagram::Session { shown, .. }) => self.count(&shown),
-                _ => {}
+            if let Some((is_farewell, shown)) = told(self.alloc, &buffer[..count]) {
+                if is_farewell {
+                    return true;
+                }
+                self.count(&shown);
             }
         }
         false

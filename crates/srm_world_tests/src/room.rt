@@ -2,6 +2,7 @@
 
 use crate::admitting::draw;
 use crate::recording::fresh;
+use srm_agent::{Effects, Entry};
 use std::test::Fail;
 
 /// 1,000 full drawops wait, and the rate lets four of them go.
@@ -13,8 +14,9 @@ fn an_entry_has_no_room_for_what_still_waits(rt: HostRuntime) -> Result<(), Fail
     }
     let _ticked = recorder.tick(1).ok().ok_or("a fault")?;
     let (_, mut entries) = recorder.finish().into_parts();
-    let last = entries.pop().ok_or("no entry")?;
-    let sent = last.effects.outs.into_vec();
+    let Entry { effects, .. } = entries.pop().ok_or("no entry")?;
+    let Effects { outs, .. } = effects;
+    let sent = outs.into_vec();
     assert_eq!(rt; (sent.len(), sent.capacity()), (4, 4));
     Ok(())
 }
