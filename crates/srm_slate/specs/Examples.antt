@@ -12,7 +12,7 @@ use Rattle.srm_slate.specs.declared.taken.Taken.{Taken}
 use Rattle.srm_slate.specs.Happenings.{newest}
 use Rattle.srm_slate.specs.Missing.{is_new, is_told_of, with_missing, without_missing}
 use Rattle.srm_slate.specs.MissingView.{MissingView}
-use Rattle.srm_slate.specs.Slates.{blank, told_from, missed, gained}
+use Rattle.srm_slate.specs.Slates.{blank, told_from, missed, gained, heard_from}
 
 abbrev board : Server
 board = record { hosts = codes "127.0.0.1:8080" ∷ codes "localhost:8080" ∷ []; is_anywhere = false; root = codes "/k3/" }
@@ -130,3 +130,9 @@ a_loss_and_its_repair_are_two_happenings = refl
 
 what_never_was_missing_is_none : gained (drawop 5) 2 blank ≡ blank
 what_never_was_missing_is_none = refl
+
+a_datagram_counts_for_who_sent_it : (heard_from 1 (heard_from 1 blank)).heard ≡ 0 ∷ 2 ∷ replicate 30 0
+a_datagram_counts_for_who_sent_it = refl
+
+and_for_all_that_came : (heard_from 2 (heard_from 1 blank)).counts.came ≡ 2
+and_for_all_that_came = refl

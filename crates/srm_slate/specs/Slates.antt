@@ -1,5 +1,5 @@
 -- What the browsers of a board are shown of their member.
-use Rattle.std.specs.Prelude.{◌≡◌, ℕ, false, List, [], ◌∷◌, ◌++◌, length, take, drop, replicate, if◌then◌else◌}
+use Rattle.std.specs.Prelude.{◌≡◌, ℕ, false, List, [], ◌∷◌, ◌++◌, length, take, drop, replicate, slice_index, slice_set, if◌then◌else◌}
 use Rattle.srm_names.specs.declared.limits.TheConstants.{MEMBERS}
 use Rattle.srm_names.specs.FullName.{FullName}
 use Rattle.srm_names.specs.Histories.{IsPrefix}
@@ -21,7 +21,7 @@ blank = record {
   is_lossy = false;
   missing = record { names = []; has_more = false };
   happenings = record { kept = []; count = 0 };
-  counts = record { sent = 0; came = 0; requests = 0; repairs = 0; ignored = 0; noise = 0 };
+  counts = record { sent = 0; came = 0; requests = 0; repairs = 0; ignored = 0; noise = 0; dropped = 0 };
   heard = replicate MEMBERS 0;
   is_stale = false;
   has_ended = false;
@@ -50,6 +50,10 @@ missed name r = let shown = record r { missing = with_missing name r.missing } i
 -- a drawop came in a datagram of this member, which is news where it was missing
 abbrev pub gained : FullName → ℕ → RecordView → RecordView
 gained name by r = let shown = record r { missing = without_missing name r.missing } in if among r.missing.names name then happened (Gained name by) shown else shown
+
+-- a datagram of this member came
+abbrev pub heard_from : ℕ → RecordView → RecordView
+heard_from member r = record r { counts = record r.counts { came = one_more r.counts.came }; heard = slice_set r.heard member (one_more (slice_index r.heard member)) }
 
 -- a look says how the member stands
 pub record Shows (r : RecordView) (look : Look) : Type 0 where

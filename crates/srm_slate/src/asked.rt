@@ -24,9 +24,9 @@ pub struct Asked<'a> {
     pub path: &'a [u8],
     /// The header `Host`: the server that it names.
     pub host: Option<&'a [u8]>,
-    /// Where the page comes from that asks, as the browser says: `Sec-Fetch-Site` and `Origin`.
+    /// The header `Sec-Fetch-Site`: from which kind of site the browser says that it comes.
     pub site: Option<&'a [u8]>,
-    /// The header `Origin`: the page that it comes from. `site` above is `Sec-Fetch-Site`.
+    /// The header `Origin`: the site that the browser says that it comes from.
     pub origin: Option<&'a [u8]>,
     /// Whether it has the header `x-srm`, which a page of another site can't put on a request without asking this server first.
     pub is_marked: bool,

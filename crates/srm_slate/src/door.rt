@@ -1,5 +1,6 @@
 //! The threads that serve the browsers.
 
+use crate::arrivals::Arrivals;
 use crate::easel::Easel;
 use crate::guard::Guard;
 use crate::hall::Hall;
@@ -9,7 +10,7 @@ use crate::slate::Slate;
 use http_server::{Config, Connection, serve};
 use std::alloc::Global;
 use std::hash::RandomState;
-use std::net::{TcpListener, TcpStream};
+use std::net::{Net, TcpListener, TcpStream};
 use std::random::RandomSource;
 use std::sync::{Arc, Wait};
 use std::thread::{JoinHandle, Threads};
@@ -18,9 +19,6 @@ use std::{thread, time};
 
 /// Connections that are served at once, each by a thread. A browser keeps up to six.
 const SERVED: u8 = 24;
-
-/// How long the thread that takes connections sleeps where there is none, in milliseconds.
-const NAP: u64 = 20;
 
 /// How long a read waits before it is looked whether the run has ended, in milliseconds.
 const LOOK: u64 = 200;
@@ -63,7 +61,7 @@ impl Door {
 /// Serves a member's slate to the browsers that come to a listener, by 25 threads: 24 serve a connection each, and 64 connections wait. Precondition: the listener
 /// doesn't block (`set_nonblocking`), or the threads don't end.
 ///
-/// Returns `None` if out of memory, if a thread can't be started, or if the system has no randomness. The threads that it had started end then.
+/// Returns `None` if out of memory, if a thread can't be started, or if the system has no randomness or refuses to poll. No thread runs then.
 pub fn open_door<R, K>(
     rt: &R,
     alloc: Global,
@@ -73,9 +71,10 @@ pub fn open_door<R, K>(
     easel: K,
 ) -> Option<Door>
 where
-    R: time::Clock + Threads + Wait + RandomSource + Copy + Send + Drop + 'static,
+    R: Net + time::Clock + Threads + Wait + RandomSource + Copy + Send + Drop + 'static,
     K: Easel + Send + Sync + Drop + 'static,
 {
+    let arrivals = Arrivals::new(rt, alloc, listener).ok()?;
     let for_porter = Arc::try_clone(&slate).ok()?;
     let shown = Shown {
         face,
@@ -85,33 +84,36 @@ where
     };
     let shown = Arc::new(alloc, shown).ok()?;
     let hall = Arc::new(alloc, Hall::new(alloc)).ok()?;
-    let Some(threads) = start_all(rt, alloc, listener, for_porter, &shown, &hall) else {
-        // Those that were started wait for connections.
-        hall.close(rt);
-        return None;
-    };
-    Some(Door { threads })
+    let mut threads = Vec::new(alloc);
+    if start_all(rt, alloc, &mut threads, arrivals, for_porter, &shown, &hall).is_some() {
+        return Some(Door { threads });
+    }
+    // Those that were started wait for connections.
+    hall.close(rt);
+    Door { threads }.close(rt);
+    None
 }
 
+// Starts the porter last: without it nobody comes, and all others end once the hall is closed.
 fn start_all<R, K>(
     rt: &R,
     alloc: Global,
-    listener: TcpListener,
+    threads: &mut Vec<JoinHandle<()>>,
+    arrivals: Arrivals,
     slate: Arc<Slate, Global>,
     shown: &Arc<Shown<K>, Global>,
     hall: &Arc<Hall, Global>,
-) -> Option<Vec<JoinHandle<()>>>
+) -> Option<()>
 where
     R: time::Clock + Threads + Wait + RandomSource + Copy + Send + Drop + 'static,
     K: Easel + Send + Sync + Drop + 'static,
 {
-    let mut threads = Vec::new(alloc);
+    threads.reserve(usize::from(SERVED) + 1).ok()?;
     for _ in 0..SERVED {
         threads.push(start_desk(rt, alloc, shown, hall)?).ok()?;
     }
     let hall = Arc::try_clone(hall).ok()?;
-    threads.push(start_porter(rt, listener, slate, hall)?).ok()?;
-    Some(threads)
+    threads.push(start_porter(rt, arrivals, slate, hall)?).ok()
 }
 
 // A number that tells a page whether this is another run than the one that it saw.
@@ -139,7 +141,7 @@ where
 
 fn start_porter<R>(
     rt: &R,
-    listener: TcpListener,
+    arrivals: Arrivals,
     slate: Arc<Slate, Global>,
     hall: Arc<Hall, Global>,
 ) -> Option<JoinHandle<()>>
@@ -147,20 +149,19 @@ where
     R: time::Clock + Threads + Wait + Copy + Send + Drop + 'static,
 {
     let own = *rt;
-    thread::spawn(rt, move || let_in(&own, &listener, &slate, &hall)).ok()
+    thread::spawn(rt, move || let_in(&own, arrivals, &slate, &hall)).ok()
 }
 
 // Takes the connections that come, until the run has ended.
-fn let_in<R: Wait + time::Clock>(rt: &R, listener: &TcpListener, slate: &Slate, hall: &Hall) {
+fn let_in<R: Wait + time::Clock>(rt: &R, arrivals: Arrivals, slate: &Slate, hall: &Hall) {
+    let mut arrivals = arrivals;
     for _ in rt.forever() {
         if slate.has_ended() {
             hall.close(rt);
             return;
         }
-        match listener.accept() {
-            Ok((stream, _)) => hall.put(rt, stream),
-            // None is there, or none can be taken now.
-            Err(_) => thread::sleep(rt, Duration::from_millis(NAP)),
+        if let Some(stream) = arrivals.next(rt) {
+            hall.put(rt, stream);
         }
     }
     unreachable!()

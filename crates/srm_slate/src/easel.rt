@@ -17,8 +17,8 @@ pub enum Drawn {
 
 /// The member to whom a board's strokes go.
 pub trait Easel {
-    /// Draws a stroke on a page, with a body of 1,024 bytes at most. Returns what became of it. It doesn't wait: the server calls again each millisecond, up to 250
-    /// times a request, while it returns `Full`.
+    /// Draws a stroke on a page, with a body of 1,024 bytes at most. Returns what became of it. It doesn't wait: while it returns `Full` the server
+    /// calls again each 4 ms, for a quarter of a second a request.
     fn draw<R: Wait>(&self, rt: &R, page: Page, body: Bytes) -> Drawn;
 
     /// Asks the member to leave once all that it took is drawn. It takes no more strokes.

@@ -25,6 +25,7 @@
 //! returns `None` if it can't start its threads.
 #![tactic(auto)]
 
+mod arrivals;
 mod asked;
 mod asking;
 mod door;

@@ -7,18 +7,20 @@ use srm_names::{MEMBERS, Name};
 /// Datagrams that passed, and what the member made of them. Counts stop at 2^64 - 1.
 #[derive(Clone, Copy, Debug, Default, PartialEq, Eq)]
 pub struct Counts {
-    /// Datagrams that were sent, each counted once for all members, and those that came from others.
+    /// Datagrams that were sent, each counted once for all members.
     pub sent: u64,
     /// Datagrams that came from other members.
     pub came: u64,
-    /// The requests and the repairs among those that were sent.
+    /// The requests among those that were sent.
     pub requests: u64,
     /// The repairs among those that were sent.
     pub repairs: u64,
-    /// Datagrams that the agent ignored, and what came and is no datagram of the session.
+    /// Datagrams that the agent ignored.
     pub ignored: u64,
     /// What came and is no datagram of the session.
     pub noise: u64,
+    /// Datagrams that came and were dropped before the agent saw them, by the wire or its guard.
+    pub dropped: u64,
 }
 
 /// What is new to one tab, and how the member stands.

@@ -1,10 +1,10 @@
 //! What there is to show so far.
 
-ghost use Rattle.std.specs.Prelude.{◌≡◌, ◌-◌, [], ◌∷◌, ◌++◌, ◌&&◌, ◌==◌, nat_le, not, length, map, take, drop, true, false, IfOk, OnOk, OnErr};
+ghost use Rattle.std.specs.Prelude.{◌≡◌, ◌-◌, [], ◌∷◌, ◌++◌, ◌&&◌, ◌==◌, nat_le, not, length, map, take, drop, slice_index, true, false, IfOk, OnOk, OnErr};
 ghost use Rattle.srm_slate.specs.declared.missing.TheConstants.{NAMED};
-ghost use Rattle.srm_slate.specs.Happenings.{newest, one_more};
+ghost use Rattle.srm_slate.specs.Happenings.{newest};
 ghost use Rattle.srm_slate.specs.Missing.{is_told_of, without_missing};
-ghost use Rattle.srm_slate.specs.Slates.{blank, happened, missed, gained, told_from, Shows, StaysPrefix, KeepsPrefix};
+ghost use Rattle.srm_slate.specs.Slates.{blank, happened, missed, gained, heard_from, told_from, Shows, StaysPrefix, KeepsPrefix};
 
 use crate::happening::Happening;
 use crate::happenings::Happenings;
@@ -173,14 +173,27 @@ impl Record {
         self.happenings.push(happening)
     }
 
+    /// Returns how often something befell the member, also those happenings that aren't kept any more.
+    pub fn happened(&self) -> u64
+        ensures { result ≡ self.now.happenings.count }
+    {
+        self.happenings.count()
+    }
+
     /// Counts a datagram of this member that came.
     pub fn hear(&mut self, from: Member)
-        ensures counts { self.new.counts ≡ record self.old.counts { came = one_more self.old.counts.came } }
-        ensures rest { self.new ≡ record self.old { counts = self.new.counts; heard = self.new.heard } }
+        ensures { self.new ≡ heard_from from self.old }
     {
-        let heard = &mut self.heard[from.index()];
-        *heard = heard.saturating_add(1);
+        let heard = self.heard_of(from);
+        self.heard[from.index()] = heard.saturating_add(1);
         self.counts.came = self.counts.came.saturating_add(1);
+    }
+
+    // How many datagrams of a member came.
+    fn heard_of(&self, member: Member) -> u64
+        ensures { result ≡ slice_index self.now.heard member }
+    {
+        self.heard[member.index()]
     }
 
     /// Returns what passed so far, to be counted on.

@@ -24,8 +24,12 @@ use std::time::{Clock, Duration};
 /// How long a page that is up to date waits for what is new, in milliseconds. The counts are so old, at most.
 const WAIT: u64 = 500;
 
-/// So often a stroke that the member doesn't take yet is tried again, at most, a millisecond apart.
-const TRIES: u8 = 250;
+/// How long to wait before a stroke that the member has no place for yet is tried again, in milliseconds. A member sends the 64 strokes that wait in no less at a
+/// million bytes a second.
+const NAP: u64 = 4;
+
+/// How often in a request: for a quarter of a second.
+const NAPS: u8 = 62;
 
 /// A member as its browsers see it.
 #[derive(Drop)]
@@ -107,13 +111,13 @@ impl<R: Wait + Clock + Drop, K: Easel + Drop> Desk<R, K> {
     // Draws a stroke a line, until one isn't taken in time, and tells how many were. Nothing is drawn behind a line that is no stroke.
     fn draw(&self, lines: &[u8], response: &mut Response) -> Result<(), AllocError> {
         let mut taken = 0_u64;
-        let mut tries = TRIES;
+        let mut naps = NAPS;
         for line in lines.split(|byte| *byte == b'\n') {
             let Some((page, body)) = stroke_in(self.alloc, line)? else {
                 response.status = StatusCode::BAD_REQUEST;
                 break;
             };
-            match self.draw_one(page, &body, &mut tries)? {
+            match self.draw_one(page, &body, &mut naps)? {
                 Drawn::Taken => taken = taken.saturating_add(1),
                 Drawn::Full => break,
                 Drawn::Over => {
@@ -127,15 +131,15 @@ impl<R: Wait + Clock + Drop, K: Easel + Drop> Desk<R, K> {
         response.body.put_slice(text.as_str().as_bytes())
     }
 
-    // Draws a stroke, and tries again while the member has no place for it and there are tries left.
-    fn draw_one(&self, page: Page, body: &Bytes, tries: &mut u8) -> Result<Drawn, AllocError> {
-        for left in (0..*tries).rev() {
+    // Draws a stroke, and tries again while the member has no place for it and there are naps left.
+    fn draw_one(&self, page: Page, body: &Bytes, naps: &mut u8) -> Result<Drawn, AllocError> {
+        for left in (0..*naps).rev() {
             let drawn = self.shown.easel.draw(&self.rt, page, body.clone()?);
             if drawn != Drawn::Full {
                 return Ok(drawn);
             }
-            *tries = left;
-            thread::sleep(&self.rt, Duration::from_millis(1));
+            *naps = left;
+            thread::sleep(&self.rt, Duration::from_millis(NAP));
         }
         Ok(Drawn::Full)
     }

@@ -26,7 +26,8 @@ impl Slate {
         }
     }
 
-    /// Locks what there is to show. A caller that changes it drops the lock and then calls [`tell`](Slate::tell).
+    /// Locks what there is to show. A caller that adds what befell the member drops the lock and then calls [`tell`](Slate::tell). Counts need no call: a browser
+    /// asks again before long.
     pub fn lock<'a, R: Wait>(&'a self, rt: &R) -> MutexGuard<'a, Record> {
         self.record.lock(rt)
     }
@@ -54,6 +55,11 @@ impl Slate {
     /// Returns whether the member's run has ended.
     pub fn has_ended(&self) -> bool {
         self.has_ended.load(Ordering::SeqCst)
+    }
+
+    /// Returns the flag that is set once the member's run has ended.
+    pub fn ended(&self) -> &AtomicBool {
+        &self.has_ended
     }
 
     /// Waits until something is new to a tab that was told the first `from` messages and saw the first `seen` happenings, or the time is up. Returns what

@@ -57,7 +57,8 @@ fn write_counts<W: fmt::Write>(f: &mut fmt::Formatter<W>, counts: Counts) -> fmt
     write!(f, "\"requests\":{},", counts.requests)?;
     write!(f, "\"repairs\":{},", counts.repairs)?;
     write!(f, "\"ignored\":{},", counts.ignored)?;
-    write!(f, "\"noise\":{}}},", counts.noise)
+    write!(f, "\"noise\":{},", counts.noise)?;
+    write!(f, "\"dropped\":{}}},", counts.dropped)
 }
 
 fn write_heard<W: fmt::Write>(
