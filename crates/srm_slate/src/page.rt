@@ -2,7 +2,7 @@
 
 /// What the page may do: run what it brings along, and ask this server. Nothing else of the network is loaded, and no other page may frame it.
 pub const POLICY: &str =
-    "default-src 'none'; script-src 'sha256-T2i0HAtCMstHCnqi+x+lFtOywirM0q3V2jn6ynuOhnY=' 'sha256-dv9w5eMwiQGb7UeT71FZsb+aCBWV2sV4gFXvKRysYgY='; style-src 'sha256-leOqQ8ClbXd7R3ysWdKlWM3b4mMwF5RHKEm/9jZRDuI='; img-src data: blob:; connect-src 'self'; base-uri 'none'; form-action 'none'; frame-ancestors 'none'";
+    "default-src 'none'; script-src 'sha256-T2i0HAtCMstHCnqi+x+lFtOywirM0q3V2jn6ynuOhnY=' 'sha256-nfP0VLcwyZPKCwPJJfmBCC/z+yNW6ecO/3ZhHqi2JsM='; style-src 'sha256-MRh90jSRvbKHNJYaKmnPwunbHiEjmQ3+dK1AW5qeBFI='; img-src data: blob:; connect-src 'self'; base-uri 'none'; form-action 'none'; frame-ancestors 'none'";
 
 /// The page: one text that a browser shows.
 pub const PAGE: &str = r##"<!doctype html>
@@ -97,7 +97,7 @@ dialog .row button { border: 1px solid var(--line); padding: 6px 14px; } dialog 
 #hint { position: fixed; transform: translate(-50%, -50%); width: max-content; margin: 0; color: var(--soft); text-align: center; font-size: 16px; line-height: 1.7; pointer-events: none; }
 kbd { font: inherit; font-size: 12px; font-weight: 600; border: 1px solid var(--line); border-bottom-width: 2px; border-radius: 5px; padding: 0 5px; white-space: nowrap; }
 .unseen { position: absolute; width: 1px; height: 1px; overflow: hidden; clip-path: inset(50%); white-space: nowrap; }
-@media (max-width: 900px) { #people { top: calc(var(--head) + 8px); max-height: calc(100vh - var(--head) - var(--foot) - 24px); } }
+@media (max-width: 1140px) { #people { top: calc(var(--head) + 8px); max-height: calc(100vh - var(--head) - var(--foot) - 24px); } }
 @media (max-width: 640px) { #foot { inset: auto 8px 8px 8px; justify-content: center; } #pages { order: 1; } .gap { margin: 0 2px; } #zoom { display: none; } .act { padding: 0 8px; } #help dl, .cells { grid-template-columns: auto 1fr; } }
 @media (hover: none) { #hint-keys { display: none; } }
 @media (forced-colors: active) { canvas, #paper, .dye i, .dot, .strip i { forced-color-adjust: none; } }
@@ -511,7 +511,7 @@ let dirty = true, keptFor = null, keptView = "", movedAt = 0, wetStale = true;
 
 // The paper has the room that the panels leave it.
 function fit() {
-  const head = $("tools").offsetHeight + 12, foot = $("foot").offsetHeight + 12, beside = innerWidth > 900 && isMembered ? 276 : 0;
+  const head = $("tools").offsetHeight + 12, foot = $("foot").offsetHeight + 12, beside = innerWidth > 720 && isMembered ? 276 : 0;
   document.documentElement.style.setProperty("--head", head + "px");
   document.documentElement.style.setProperty("--foot", foot + "px");
   frameBox = { x: 12, y: head + 8, wide: Math.max(40, innerWidth - 24 - beside), high: Math.max(40, innerHeight - head - foot - 16) };
@@ -605,11 +605,19 @@ function frame() {
   const p = page();
   $("hint").hidden = Boolean(!last || isOver || cross || writing || shaping || pending.size || p && p.shown.length);
   if (p) paintBase(p); else ready(base);
+  const stopped = p ? [...new Set(holes.filter(hole => hole[1] === here).map(hole => hole[0]))] : [];
+  const isMarked = Boolean(pending.size || shaping || wiping.size || cross || stopped.length);
+  if (isMarked || wasMarked) paintOver(p, stopped);
+  wasMarked = isMarked;
+}
+// What isn't on the page: what is on its way, what is drawn and wiped now, the cross, and where drawings stop.
+let wasMarked = false;
+function paintOver(p, stopped) {
   paintWet();
   const c = ready(over);
   put(c, wet);
   if (shaping && shaping.page === here) paint(c, shaping);
-  if (p) for (const member of new Set(holes.filter(hole => hole[1] === here).map(hole => hole[0]))) paintStop(c, p.source(member).newest);
+  for (const member of stopped) paintStop(c, p.source(member).newest);
   if (p && wiping.size) { c.globalAlpha = .8; for (const shape of wiping) paint(c, faded(shape)); c.globalAlpha = 1; }
   if (cross) paintCross(c);
 }
@@ -765,10 +773,10 @@ function news(...parts) {
   while ($("news").children.length > 6) $("news").lastChild.remove();
 }
 function showCounts() {
-  const { sent, came, requests, repairs } = last.counts, count = pending.size;
+  const { sent, came, requests, repairs, dropped } = last.counts, count = pending.size;
   const missing = last.missing ? made("b", { textContent: `missing ${last.missing}` + (last.more ? " and more" : "") }) : "missing 0";
   $("who").classList.toggle("hole", last.missing > 0 && !isMembered);
-  $("counts").replaceChildren(`sent ${sent} · came ${came} · asked ${requests} · repaired ${repairs} · `, missing, count ? ` · ${count} on the way` : "");
+  $("counts").replaceChildren(`sent ${sent} · came ${came} · asked ${requests} · repaired ${repairs} · `, missing, dropped ? ` · dropped ${dropped}` : "", count ? ` · ${count} on the way` : "");
 }
 let toastTimer = 0, saidAt = 0;
 function toast(text) { $("toast").textContent = text; $("toast").className = "on"; clearTimeout(toastTimer); toastTimer = setTimeout(() => { $("toast").className = ""; }, 3500); }
@@ -822,11 +830,16 @@ function apply(told) {
   dirty = true;
   showPages(); showPeople(); showCounts(); label();
 }
+const APART = 12;       // it asks no more often than each so many ms: what comes quickly comes in one answer
 async function listen() {
-  for (let failed = 0; !isOver;) {
+  for (let failed = 0, askedAt = 0; !isOver;) {
+    const early = askedAt + APART - performance.now();
+    if (early > 0) await pause(early);
+    askedAt = performance.now();
     if (document.hidden) await new Promise(done => document.addEventListener("visibilitychange", done, { once: true }));
     try {
       const answer = await fetch(`told?from=${from}&seen=${happened}`, { headers: MARK, cache: "no-store" });
+      if (answer.status === 404) { veil("The member was started anew, and its page has another address: its terminal names it"); await pause(3000); continue; }
       if (!answer.ok) throw new Error(answer.status);
       const told = await answer.json();
       if (run !== null && told.run !== run) { reset(); continue; }
@@ -842,10 +855,11 @@ async function listen() {
 
 /* ---- What is drawn here ---- */
 const CUT = 60;         // a stroke that is being drawn is cut so often at most, in ms, once the last piece was taken
-const POSTED = 60000;   // bodies go to the member in batches of so many bytes at most
+const POSTED = 60000, LITTLE = 4000;    // bodies go to the member in batches of so many bytes at most; while it is full, of fewer
 const pending = new Set();      // strokes that were drawn here and haven't come back whole
 const awaited = new Map();      // of each page and body the strokes that await it
 const queue = [];               // bodies to send, in order, each with its page
+let most = POSTED;
 const tab = Math.random().toString(36).slice(2, 5).padEnd(3, "0");
 let shaping = null, wiping = new Set(), isPumping = false, strokes = 0, mine = [];
 
@@ -871,7 +885,7 @@ function batch() {
   let length = 0;
   for (const line of queue) {
     length += bytesOf(line) + 1;
-    if (length > POSTED) break;
+    if (length > most && lines.length) break;
     lines.push(line);
   }
   return lines;
@@ -893,7 +907,9 @@ async function pump() {
       let taken = 0;
       try { taken = await post(lines); } catch (e) { await pause(500); }
       queue.splice(0, taken);
-      if (taken < lines.length) await pause(10);
+      // What a full member has no place for isn't sent again and again.
+      most = taken < lines.length ? Math.max(LITTLE, most / 2) : Math.min(POSTED, most * 2);
+      if (!taken) await pause(10);
     }
   } finally { isPumping = false; dirty = true; }
 }
