@@ -7,5 +7,6 @@ mod Giving
 mod Levels
 mod Abreast
 mod Twins
-mod Replaying
+pub mod Replaying
 mod ReplayExample
+pub mod Handed

@@ -28,11 +28,11 @@ use Rattle.srm_replays.proofs.Twins.{goes_here, arms_here, same_going}
 
 -- a run, marked with what went in each entry
 
-abbrev AllGoOn : Config → ℕ → List Going → List Going → Type 0
+abbrev pub AllGoOn : Config → ℕ → List Going → List Going → Type 0
 AllGoOn c made before [] = Unit {0}
 AllGoOn c made before (x ∷ xs) = GoesOn c made before x × AllGoOn c made (before ++ x ∷ []) xs
 
-all_go_on : (c : Config) (made : ℕ) (before xs : List Going) → AllByRecursion (EntryRight c made) (steps_after (entries_of before) (entries_of xs)) → AllByRecursion GoesAsCharged (steps_after before xs)
+pub all_go_on : (c : Config) (made : ℕ) (before xs : List Going) → AllByRecursion (EntryRight c made) (steps_after (entries_of before) (entries_of xs)) → AllByRecursion GoesAsCharged (steps_after before xs)
     → BucketLaw c.rate c.depth (bucket_calls c.me (before ++ xs)) → AllGoOn c made before xs
 all_go_on c made before [] each goes law = tt
 all_go_on c made before (x ∷ xs) each goes law =
@@ -43,7 +43,7 @@ all_go_on c made before (x ∷ xs) each goes law =
 
 -- noise doesn't act
 
-noise_rests : (v : Verdict) (i : Input) (f : Effects) → is_noise i ≡ true → (is_done v && acts_by i f) ≡ false
+pub noise_rests : (v : Verdict) (i : Input) (f : Effects) → is_noise i ≡ true → (is_done v && acts_by i f) ≡ false
 noise_rests v Noise f e = never (is_done v)
   where
     never : (b : Bool) → (b && false) ≡ false
@@ -64,10 +64,10 @@ acts_awake e a = go (is_noise e.input) refl
     go false q = refl
     go true q = let rests : acts e ≡ false = noise_rests e.verdict e.input e.effects q in absurd (cc)
 
-kept : (p : Entry → Bool) (e : Entry) (es : List Entry) → p e ≡ true → filter p (e ∷ es) ≡ e ∷ filter p es
+pub kept : (p : Entry → Bool) (e : Entry) (es : List Entry) → p e ≡ true → filter p (e ∷ es) ≡ e ∷ filter p es
 kept p e es q = ap (λ b. cond b (e ∷ filter p es) (filter p es)) q
 
-dropped : (p : Entry → Bool) (e : Entry) (es : List Entry) → p e ≡ false → filter p (e ∷ es) ≡ filter p es
+pub dropped : (p : Entry → Bool) (e : Entry) (es : List Entry) → p e ≡ false → filter p (e ∷ es) ≡ filter p es
 dropped p e es q = ap (λ b. cond b (e ∷ filter p es) (filter p es)) q
 
 noise_dropped : (e : Entry) (es : List Entry) → is_noise e.input ≡ true → but_noise (e ∷ es) ≡ but_noise es
@@ -93,22 +93,22 @@ none_act [] e = refl
 none_act (x ∷ es) e = absurd (cc)
 
 -- Two runs that met at a call which acts: they go on abreast, by the same random numbers.
-record Met {W : Type 0} (next_word : W → ℕ × W) (c : Config) (made : ℕ) (us vs : List Going) (to other : W) (x y : Going) (xs ys : List Going) : Type 0 where
-  same : x ≡ y
-  acts_too : acts y.entry ≡ true
-  abreast : Abreast c made (us ++ x ∷ []) (vs ++ x ∷ [])
-  also : AllGoOn c made (vs ++ x ∷ []) ys
-  mid : W
-  words : AreByWords next_word c mid (entries_of xs) to
-  more : AreByWords next_word c mid (entries_of ys) other
+pub record Met {W : Type 0} (next_word : W → ℕ × W) (c : Config) (made : ℕ) (us vs : List Going) (to other : W) (x y : Going) (xs ys : List Going) : Type 0 where
+  pub same : x ≡ y
+  pub acts_too : acts y.entry ≡ true
+  pub abreast : Abreast c made (us ++ x ∷ []) (vs ++ x ∷ [])
+  pub also : AllGoOn c made (vs ++ x ∷ []) ys
+  pub mid : W
+  pub words : AreByWords next_word c mid (entries_of xs) to
+  pub more : AreByWords next_word c mid (entries_of ys) other
 
 module _ {W : Type 0} (next_word : W → ℕ × W) (c : Config) (made : ℕ) (me : nat_le c.members c.me ≡ false) where
   -- the words of an entry that sets no timer, and those after it
-  words_after : (from to : W) (x : Going) (xs : List Going) → x.entry.effects.arms ≡ [] → AreByWords next_word c from (entries_of (x ∷ xs)) to → AreByWords next_word c from (entries_of xs) to
+  pub words_after : (from to : W) (x : Going) (xs : List Going) → x.entry.effects.arms ≡ [] → AreByWords next_word c from (entries_of (x ∷ xs)) to → AreByWords next_word c from (entries_of xs) to
   words_after from to x xs none words = subst (λ w. AreChosen next_word (low_of c) (high_of c) from (w ++ arms_in (entries_of xs)) to) none words
 
   -- a call that acts, and a call at its moment and of its input
-  meet : (us vs : List Going) (from to other : W) (x y : Going) (xs ys : List Going) → acts x.entry ≡ true → call_of y.entry ≡ call_of x.entry → Abreast c made us vs → GoesOn c made us x
+  pub meet : (us vs : List Going) (from to other : W) (x y : Going) (xs ys : List Going) → acts x.entry ≡ true → call_of y.entry ≡ call_of x.entry → Abreast c made us vs → GoesOn c made us x
       → AllGoOn c made vs (y ∷ ys) → AreByWords next_word c from (entries_of (x ∷ xs)) to → AreByWords next_word c from (entries_of (y ∷ ys)) other → Met next_word c made us vs to other x y xs ys
   meet us vs from to other x y xs ys acts_x call a on also words more =
       let moment : x.entry.moment ≡ y.entry.moment = sym (ap (λ (k : ℕ × Input). k.0) call) in
@@ -131,7 +131,7 @@ module _ {W : Type 0} (next_word : W → ℕ × W) (c : Config) (made : ℕ) (me
       }
 
   -- the entries that act, from there on
-  met_then : (us vs : List Going) (to other : W) (x y : Going) (xs ys : List Going) → acts x.entry ≡ true → Met next_word c made us vs to other x y xs ys → acting (entries_of ys) ≡ acting (entries_of xs)
+  pub met_then : (us vs : List Going) (to other : W) (x y : Going) (xs ys : List Going) → acts x.entry ≡ true → Met next_word c made us vs to other x y xs ys → acting (entries_of ys) ≡ acting (entries_of xs)
       → acting (entries_of (y ∷ ys)) ≡ acting (entries_of (x ∷ xs))
   met_then us vs to other x y xs ys acts_x met rest =
       kept acts y.entry (entries_of ys) met.acts_too ∙ ap (λ es. y.entry ∷ es) rest ∙ ap (λ (z : Going). z.entry ∷ acting (entries_of xs)) (sym met.same) ∙ sym (kept acts x.entry (entries_of xs) acts_x)
@@ -222,7 +222,7 @@ module _ {W : Type 0} (next_word : W → ℕ × W) (c : Config) (made : ℕ) (me
       (ap (λ ys. map call_of (calls ys)) r ∙ same ∙ ap (λ ys. map call_of (acting ys)) (sym q))
       ∙ ap acting q
 
-outside : (members me : ℕ) → me < members → nat_le members me ≡ false
+pub outside : (members me : ℕ) → me < members → nat_le members me ≡ false
 outside members me l = grind (arith, nat_tests)
 
 pub replay_law : {W : Type 0} → ReplayLaw W
