@@ -3,3 +3,8 @@ mod GoingOn
 mod Gathered
 mod Elements
 mod Filing
+mod Recorded
+mod Making
+mod Taken
+mod Remade
+mod Untold

@@ -4,7 +4,8 @@ use Rattle.std.specs.Prelude.{if◌then◌else◌, unwrap_or}
 use Rattle.srm_names.specs.Histories.{last_of, or_else}
 use Rattle.srm_names.proofs.Snoc.{last_of-snoc}
 use Rattle.srm_entries.specs.declared.entry.Entry.{Entry}
-use Rattle.srm_record.specs.Calls.{acts, last_after, moment_of_acting, last_recorded}
+use Rattle.srm_replays.specs.Calls.{acts}
+use Rattle.srm_record.specs.Calls.{last_after, moment_of_acting, last_recorded}
 
 choice : (b : Bool) (x m : ℕ) (o : Option ℕ) → unwrap_or (or_else (if b then Some x else None) o) m ≡ (if b then x else unwrap_or o m)
 choice true x m o = refl

@@ -14,7 +14,7 @@ use Rattle.srm_frames.specs.Frames.{sealed, frame_fields}
 use Rattle.srm_frames.specs.Beginnings.{identity_fields, limit_fields, wait_fields, origin_fields, beginning_fields, beginning_text}
 use Rattle.srm_frames.specs.Lines.{line_text, lines_text}
 use Rattle.srm_record.specs.Calls.{lines_of}
-use Rattle.srm_record.specs.Takes.{takes_at, end_at}
+use Rattle.srm_record.specs.Takes.{takes_at, end_at, lists_in}
 
 abbrev began : Beginning
 began = record { config = record (in_roster 0 2 4204) { session = 7 }; made = 5; seed = 9; wall = 1795811000000000 }
@@ -56,6 +56,10 @@ a_give_behind_an_idle_tick = refl
 what_was_taken : lines_text (takes_at 50 ((messages.Open first_page ∷ []) ∷ [] ∷ [])) ≡ 0x07 ∷ 0x00 ∷ 0x00 ∷ 0x00 ∷ 0x00 ∷ 0x00 ∷ 0x00 ∷ 0x00 ∷ 0x32 ∷ 0x00 ∷ 0x00 ∷ 0x00 ∷ 0x05 ∷ 0x00 ∷ 0x01 ∷ 0x00 ∷ 0x00 ∷ 0x00 ∷ 0x02 ∷ 0x42 ∷ 0x61 ∷ 0xfa ∷ []
 unfolding after_byte crc_32 sealed frame_fields line_text page_bytes
 what_was_taken = refl
+
+-- the lists of eight slots are read from such lines
+what_was_taken_again : lists_in (takes_at 50 ((messages.Open first_page ∷ []) ∷ [] ∷ (messages.Close ∷ []) ∷ [])) ≡ (messages.Open first_page ∷ []) ∷ [] ∷ (messages.Close ∷ []) ∷ [] ∷ [] ∷ [] ∷ [] ∷ [] ∷ []
+what_was_taken_again = refl
 
 the_end : line_text (end_at 50) ≡ 0x08 ∷ 0x00 ∷ 0x00 ∷ 0x00 ∷ 0x00 ∷ 0x00 ∷ 0x00 ∷ 0x00 ∷ 0x32 ∷ 0x00 ∷ 0x00 ∷ 0x00 ∷ 0x00 ∷ 0x8e ∷ 0x96 ∷ 0x7e ∷ 0x09 ∷ []
 unfolding after_byte crc_32 sealed frame_fields line_text

@@ -1,9 +1,12 @@
 -- The lines behind a member's calls: what its page workers took, and that this is all.
-use Rattle.std.specs.Prelude.{ℕ, List, map, Vec}
-use Rattle.std.specs.List.{flat_map, enumerate_from}
+use Rattle.std.specs.Prelude.{ℕ, ◌==◌, List, map, if◌then◌else◌, Option, Some, None, Vec}
+use Rattle.std.specs.List.{filter_map, flat_map, enumerate_from}
 use Rattle.std.specs.Global.{Global}
+use Rattle.srm_names.specs.declared.limits.TheConstants.{PAGES}
 use Rattle.srm_names.specs.declared.page_msg.PageMsg.{PageMsg}
+use Rattle.srm_names.specs.Histories.{count_up}
 use Rattle.srm_frames.specs.declared.line.Line.{Line}
+use Rattle.srm_frames.specs.declared.line.Call.{Call}
 use Rattle.srm_frames.specs.declared.line.Call.TheVariants.{Took, Ended}
 
 -- what was taken in each slot
@@ -26,3 +29,16 @@ takes_at last lists = flat_map (listed_lines last) (enumerate_from 0 lists)
 
 abbrev pub end_at : ℕ → Line
 end_at last = record { moment = last; call = Ended }
+
+-- what a line says was taken in a slot
+abbrev pub took_in : ℕ → Call → Option PageMsg
+took_in slot (Took other message) = if other == slot then Some message else None
+took_in slot _ = None
+
+-- what lines say was taken in a slot, in order
+abbrev pub list_in : List Line → ℕ → List PageMsg
+list_in lines slot = filter_map (λ (l : Line). took_in slot l.call) lines
+
+-- the same, slot by slot
+abbrev pub lists_in : List Line → List (List PageMsg)
+lists_in lines = map (list_in lines) (count_up 0 PAGES)

@@ -5,7 +5,8 @@ use Rattle.srm_names.specs.Histories.{since}
 use Rattle.srm_entries.specs.declared.entry.Entry.{Entry}
 use Rattle.srm_frames.specs.declared.beginning.Beginning.{Beginning}
 use Rattle.srm_frames.specs.declared.line.Line.{Line}
-use Rattle.srm_record.specs.Calls.{is_empty, line_of, lines_of}
+use Rattle.srm_replays.specs.Calls.{is_empty}
+use Rattle.srm_record.specs.Calls.{line_of, lines_of}
 use Rattle.srm_frames.specs.Lines.{line_text, lines_text}
 use Rattle.srm_record.specs.Records.{record_of, last_of_record}
 

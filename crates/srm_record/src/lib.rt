@@ -9,20 +9,22 @@
 //! ```
 //!
 //! A record says what a member was handed, call by call, and what its page workers took. It says nothing of what the member did. [`Written`] writes it: a call that sends is in the file before any of its
-//! datagrams leaves. [`retell`] makes the calls again with a [`Recorder`](srm_world::Recorder), and returns the journal only if the record is exactly the record of that journal.
-//! [`srm_frames`] has the bytes.
+//! datagrams leaves. [`retell`] makes the calls again with a [`Recorder`](srm_world::Recorder), and returns the journal if the record is exactly the record of that journal; if it isn't, no
+//! run has this record. [`records_tell`] states that a run with this record did the same. [`srm_frames`] has the bytes.
 //!
 //! Calls that did nothing are left out: what was refused, ignored or noise, ticks at which nothing was due, and gives that found nothing.
 //!
 //! If the file fails, [`Written`] goes on without it, and says so at its end.
 #![tactic(auto)]
 
+mod laws;
 mod record_file;
 mod replaying;
 mod taking;
 mod telling;
 mod written;
 
+pub use laws::records_tell;
 pub use replaying::{Replayed, retell};
 pub use telling::acts;
 pub use written::{Ended, Written};

@@ -1,20 +1,24 @@
 //! A record's calls, made anew.
 
-ghost use Rattle.std.specs.Prelude.{◌≡◌, ◌≤◌, ◌++◌, ◌∷◌, [], true, vec_len, IfOk, IfSome};
+ghost use Rattle.std.specs.Prelude.{◌≡◌, ℕ, ◌<◌, ◌≤◌, ◌++◌, ◌∷◌, [], true, false, vec_len, Err, IfOk, IfSome, MatchOption, OnOk};
+ghost use Rattle.std.specs.List.{cons_option};
 ghost use Rattle.rand_pcg.specs.Lcg.{Lcg};
 ghost use Rattle.rand_pcg.specs.Pcg.{pcg64};
 ghost use Rattle.srm_names.specs.declared.limits.TheConstants.{LATEST_MOMENT, PAGES};
 ghost use Rattle.srm_timers.specs.Seeds.{words_of};
+ghost use Rattle.srm_entries.specs.declared.fault.AgentFault.TheVariants.{Memory};
+ghost use Rattle.srm_entries.specs.Entries.{last_moment, moments_counted, takes_moment};
 ghost use Rattle.srm_world.specs.Claims.{IsLawfulJournal};
 ghost use Rattle.srm_world.specs.WaitWords.{AreByWords, RecordsByWords};
 ghost use Rattle.srm_frames.specs.Lines.{lines_text};
 ghost use Rattle.srm_record.specs.Calls.{lines_of};
-ghost use Rattle.srm_record.specs.Replays.{GoesOn, start_of, lines_told};
-ghost use Rattle.srm_record.specs.Takes.{taken_in, takes_at, end_at};
+ghost use Rattle.srm_record.specs.Making.{GainsGiven, Makes, MakesAll, Waits};
+ghost use Rattle.srm_record.specs.Replays.{GoesOn, IsOfNoRun, start_of, lines_told};
+ghost use Rattle.srm_record.specs.Takes.{taken_in, takes_at, end_at, took_in, list_in, lists_in};
 
 use crate::taking::{end_at, takes_at};
 use crate::telling::{last_recorded, lines_of};
-use srm_entries::AgentFault;
+use srm_entries::{AgentFault, Entry, Input, Verdict};
 use srm_frames::{Beginning, Call, Line, Record, RecordEnd, put_lines};
 use srm_names::{LATEST_MOMENT, PAGES, PageMsg};
 use srm_timers::Pcg;
@@ -29,16 +33,18 @@ pub struct Replayed {
 }
 
 /// Makes the calls of a record anew, in a recorder with the same settings and random numbers. Returns what came out, if the record's lines are exactly
-/// those that a member writes who did this; None where any is another, one is missing, or the member can't have been made then.
+/// those that a member writes who did this. Returns `None` if they aren't: then no run of a member that began so, with these random numbers, has this record.
 ///
 /// So the journal is a lawful run of its member, whatever the calls were, and the record is the record of that run. Fails only if out of memory. Costs what the member's calls
 /// cost, and a step for each byte of the lines.
+#[tactic(auto, using(crate::proofs::Untold::untold, crate::proofs::Untold::made_too_late))]
 pub fn retell(alloc: Global, read: &Record) -> Result<Option<Replayed>, AllocError>
     ensures start { IfOk result (λ found. IfSome found (λ r. r.journal.start ≡ start_of read.now.beginning)) }
     ensures lawful { IfOk result (λ found. IfSome found (λ r. IsLawfulJournal r.journal)) }
     ensures words { IfOk result (λ found. IfSome found (λ r. (to : Lcg) × AreByWords pcg64 r.journal.start.config (words_of read.now.beginning.seed) r.journal.entries to)) }
     ensures told { IfOk result (λ found. IfSome found (λ r. lines_text read.now.lines.items ≡ lines_text (lines_told read.now.beginning r.journal.entries (taken_in r.taken.items) read.now.end))) }
     ensures slots { IfOk result (λ found. IfSome found (λ r. vec_len r.taken ≡ PAGES)) }
+    ensures none { IfOk result (λ found. MatchOption found (IsOfNoRun read.now) (λ _. Unit {0})) }
 {
     if read.beginning.made > LATEST_MOMENT {
         return Ok(None);
@@ -58,6 +64,8 @@ fn replay(alloc: Global, read: &Record) -> Result<Replayed, AllocError>
     ensures lawful { IfOk result (λ r. IsLawfulJournal r.journal) }
     ensures words { IfOk result (λ r. (to : Lcg) × AreByWords pcg64 r.journal.start.config (words_of read.now.beginning.seed) r.journal.entries to) }
     ensures slots { IfOk result (λ r. vec_len r.taken ≡ PAGES) }
+    ensures lists { IfOk result (λ r. taken_in r.taken.items ≡ lists_in read.now.lines.items) }
+    ensures made { IfOk result (λ r. MakesAll read.now.lines.items (record { start = start_of read.now.beginning; entries = [] }) r.journal) }
 {
     let taken = lists(alloc, read.lines.as_slice())?;
     let journal = journal(alloc, read.beginning, read.lines.as_slice())?;
@@ -67,7 +75,8 @@ fn replay(alloc: Global, read: &Record) -> Result<Replayed, AllocError>
 /// Whether a record's lines are exactly those of what was replayed.
 fn is_told(alloc: Global, read: &Record, replayed: &Replayed) -> Result<bool, AllocError>
     requires { vec_len replayed.now.taken ≤ PAGES }
-    ensures { IfOk result (λ same. same ≡ true → lines_text read.now.lines.items ≡ lines_text (lines_told read.now.beginning replayed.now.journal.entries (taken_in replayed.now.taken.items) read.now.end)) }
+    ensures told { IfOk result (λ same. same ≡ true → lines_text read.now.lines.items ≡ lines_text (lines_told read.now.beginning replayed.now.journal.entries (taken_in replayed.now.taken.items) read.now.end)) }
+    ensures another { IfOk result (λ same. same ≡ false → lines_text read.now.lines.items ≡ lines_text (lines_told read.now.beginning replayed.now.journal.entries (taken_in replayed.now.taken.items) read.now.end) → ⊥) }
 {
     let told = told(alloc, read.beginning, read.end, replayed)?;
     let given = text_of(alloc, read.lines.as_slice())?;
@@ -134,6 +143,7 @@ fn journal(alloc: Global, beginning: Beginning, lines: &[Line]) -> Result<Journa
     ensures start { IfOk result (λ j. j.start ≡ start_of beginning) }
     ensures words { IfOk result (λ j. (to : Lcg) × AreByWords pcg64 j.start.config (words_of beginning.seed) j.entries to) }
     ensures lawful { IfOk result IsLawfulJournal }
+    ensures made { IfOk result (MakesAll lines.now (record { start = start_of beginning; entries = [] })) }
 {
     let Beginning {
         config,
@@ -150,6 +160,7 @@ fn played(recorder: Recorder<Pcg>, lines: &[Line]) -> Result<Journal, AllocError
     ensures start { IfOk result (λ j. j.start ≡ recorder.journal.start) }
     ensures words { IfOk result (λ j. (to : Lcg) × RecordsByWords pcg64 recorder (record { journal = j; words = to })) }
     ensures lawful { IfOk result IsLawfulJournal }
+    ensures made { IfOk result (MakesAll lines.now recorder.journal) }
 {
     let mut recorder = recorder;
     match make_all(&mut recorder, lines) {
@@ -158,49 +169,23 @@ fn played(recorder: Recorder<Pcg>, lines: &[Line]) -> Result<Journal, AllocError
     }
 }
 
-#[tactic(auto, using(crate::proofs::GoingOn::stays, crate::proofs::GoingOn::goes_on_more))]
+#[tactic(auto, using(crate::proofs::GoingOn::stays, crate::proofs::GoingOn::goes_on_more, crate::proofs::Making::makes_next))]
 fn make_all(recorder: &mut Recorder<Pcg>, lines: &[Line]) -> Result<(), AllocError>
-    ensures { GoesOn pcg64 recorder.old recorder.new }
+    ensures goes { GoesOn pcg64 recorder.old recorder.new }
+    ensures makes { OnOk result (MakesAll lines.now recorder.old.journal recorder.new.journal) }
 {
     for line in lines {
-        make_line(recorder, &line.call, line.moment.min(LATEST_MOMENT))?;
+        make(recorder, &line.call, line.moment.min(LATEST_MOMENT))?;
     }
     Ok(())
 }
 
-/// Makes a call. A give has the moment of the call before it, which may have no line: then noise comes first.
-#[tactic(auto, using(crate::proofs::GoingOn::stays, crate::proofs::GoingOn::goes_on_more))]
-fn make_line(recorder: &mut Recorder<Pcg>, call: &Call, now: u64) -> Result<(), AllocError>
-    requires { now ≤ LATEST_MOMENT }
-    ensures { GoesOn pcg64 recorder.old recorder.new }
-{
-    if matches!(call, Call::Gave(_)) && last_moment(recorder) < now {
-        wait(recorder, now)?;
-    }
-    make(recorder, call, now)
-}
-
-fn last_moment(recorder: &Recorder<Pcg>) -> u64 {
-    match recorder.entries().last() {
-        Some(entry) => entry.moment,
-        None => 0,
-    }
-}
-
-/// Lets a moment come, and nothing else.
-#[tactic(auto, using(crate::proofs::GoingOn::goes_on_by_hearing))]
-fn wait(recorder: &mut Recorder<Pcg>, now: u64) -> Result<(), AllocError>
-    requires { now ≤ LATEST_MOMENT }
-    ensures { GoesOn pcg64 recorder.old recorder.new }
-{
-    made(recorder.hear(&[], now))
-}
-
 /// Makes a call. What a member refuses is in its journal.
-#[tactic(auto, using(crate::proofs::GoingOn::goes_on_by_call, crate::proofs::GoingOn::goes_on_by_hearing, crate::proofs::GoingOn::stays))]
+#[tactic(auto, using(crate::proofs::GoingOn::goes_on_by_call, crate::proofs::GoingOn::goes_on_by_hearing, crate::proofs::GoingOn::stays, crate::proofs::Making::made_call, crate::proofs::Making::made_heard))]
 fn make(recorder: &mut Recorder<Pcg>, call: &Call, now: u64) -> Result<(), AllocError>
     requires { now ≤ LATEST_MOMENT }
-    ensures { GoesOn pcg64 recorder.old recorder.new }
+    ensures goes { GoesOn pcg64 recorder.old recorder.new }
+    ensures makes { OnOk result (Makes now call.now recorder.old.journal recorder.new.journal) }
 {
     match call {
         Call::Drew(page, body) => {
@@ -211,47 +196,110 @@ fn make(recorder: &mut Recorder<Pcg>, call: &Call, now: u64) -> Result<(), Alloc
         Call::Ticked => made(recorder.tick(now)),
         Call::Showed(page) => made(recorder.show(*page, now)),
         Call::AskedLeave => made(recorder.leave(now)),
-        Call::Gave(slot) if *slot < PAGES => made(recorder.give(*slot)),
-        Call::Gave(_) | Call::Took(_, _) | Call::Ended => Ok(()),
+        Call::Gave(slot) => give(recorder, *slot, now),
+        Call::Took(_, _) | Call::Ended => Ok(()),
     }
 }
 
+/// Asks for the next message of a slot, if there is this slot. It has the moment of the call before it, which may have no line: then noise comes first.
+#[tactic(auto, using(crate::proofs::GoingOn::goes_on_by_call, crate::proofs::GoingOn::stays, crate::proofs::GoingOn::goes_on_more, crate::proofs::Making::made_give))]
+fn give(recorder: &mut Recorder<Pcg>, slot: u8, now: u64) -> Result<(), AllocError>
+    requires { now ≤ LATEST_MOMENT }
+    ensures goes { GoesOn pcg64 recorder.old recorder.new }
+    ensures gives { OnOk result (slot < PAGES → GainsGiven now slot recorder.old.journal recorder.new.journal) }
+{
+    if slot >= PAGES {
+        return Ok(());
+    }
+    wait(recorder, now)?;
+    made(recorder.give(slot))
+}
+
+/// Lets a moment come, and nothing else.
+#[tactic(auto, using(crate::proofs::GoingOn::goes_on_by_hearing, crate::proofs::GoingOn::stays, crate::proofs::Making::made_wait, crate::proofs::Making::waits_none))]
+fn wait(recorder: &mut Recorder<Pcg>, now: u64) -> Result<(), AllocError>
+    requires { now ≤ LATEST_MOMENT }
+    ensures goes { GoesOn pcg64 recorder.old recorder.new }
+    ensures waits { OnOk result (Waits now recorder.old.journal recorder.new.journal) }
+{
+    if has_come(recorder.entries(), now) {
+        return Ok(());
+    }
+    made(recorder.hear(&[], now))
+}
+
+/// Whether a moment has come, by the last entry that counts.
+#[tactic(auto, using(crate::proofs::Making::has_come_by))]
+fn has_come(entries: &[Entry], now: u64) -> bool
+    ensures { result ≡ true → (made : ℕ) → now ≤ last_moment made entries.now }
+{
+    let mut rest = entries;
+    'rest: while let Some((entry, before)) = rest.split_last() {
+        if counts(entry) {
+            return now <= entry.moment;
+        }
+        rest = before;
+    }
+    false
+}
+
+/// Whether an entry moves the clock.
+fn counts(entry: &Entry) -> bool
+    ensures { result ≡ true → moments_counted entry.now.verdict entry.now ≡ entry.now.moment ∷ [] }
+{
+    match entry.verdict {
+        Verdict::Refused(_) => false,
+        Verdict::Done | Verdict::Ignored(_) => takes_moment(&entry.input),
+    }
+}
+
+fn takes_moment(input: &Input) -> bool
+    ensures { result ≡ takes_moment input.now }
+{
+    !matches!(input, Input::Gave(_) | Input::Took(_))
+}
+
 /// Out of memory, or else that the call was made.
-fn made<T: Drop>(answer: Result<T, AgentFault>) -> Result<(), AllocError> {
+fn made<T: Drop>(answer: Result<T, AgentFault>) -> Result<(), AllocError>
+    ensures { OnOk result (answer ≡ Err Memory → ⊥) }
+{
     match answer {
         Err(AgentFault::Memory) => Err(AllocError),
         _ => Ok(()),
     }
 }
 
-/// What was taken in each slot.
+/// What was taken, slot by slot.
 fn lists(alloc: Global, lines: &[Line]) -> Result<Vec<Vec<PageMsg>>, AllocError>
-    ensures { IfOk result (λ taken. vec_len taken ≡ PAGES) }
-{
-    let mut taken = empty_lists(alloc)?;
-    for line in lines {
-        if let Call::Took(slot, message) = &line.call {
-            keep(&mut taken, *slot, message)?;
-        }
-    }
-    Ok(taken)
-}
-
-fn empty_lists(alloc: Global) -> Result<Vec<Vec<PageMsg>>, AllocError>
-    ensures { IfOk result (λ taken. vec_len taken ≡ PAGES) }
+    ensures all { IfOk result (λ taken. taken_in taken.items ≡ lists_in lines.now) }
+    ensures slots { IfOk result (λ taken. vec_len taken ≡ PAGES) }
 {
     let mut taken = Vec::new(alloc);
-    'slots: for _ in 0..PAGES {
-        taken.push(Vec::new(alloc))?;
+    'slots: for slot in 0..PAGES {
+        let list = list_in(alloc, lines, slot)?;
+        taken.push(list)?;
     }
     Ok(taken)
 }
 
-fn keep(taken: &mut Vec<Vec<PageMsg>>, slot: u8, message: &PageMsg) -> Result<(), AllocError>
-    ensures { vec_len taken.new ≡ vec_len taken.old }
+/// What was taken in a slot.
+fn list_in(alloc: Global, lines: &[Line], slot: u8) -> Result<Vec<PageMsg>, AllocError>
+    ensures { IfOk result (λ list. list.items ≡ list_in lines.now slot) }
 {
-    if let Some(list) = taken.get_mut(usize::from(slot)) {
-        list.push(message.copy()?)?;
+    let mut list = Vec::new(alloc);
+    for line in lines {
+        add_taken(&mut list, slot, &line.call)?;
     }
-    Ok(())
+    Ok(list)
+}
+
+fn add_taken(list: &mut Vec<PageMsg>, slot: u8, call: &Call) -> Result<(), AllocError>
+    ensures { OnOk result (list.new.items ≡ list.old.items ++ cons_option (took_in slot call.now) []) }
+{
+    match call {
+        Call::Took(other, message) if *other == slot => {
+            list.push(message.copy()?).map_err(AllocError::from)
+        }
+        _ => Ok(()),
+    }
 }

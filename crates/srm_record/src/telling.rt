@@ -3,7 +3,8 @@
 ghost use Rattle.std.specs.Prelude.{◌≡◌, ◌++◌, [], IfOk, OnOk};
 ghost use Rattle.std.specs.List.{cons_option};
 ghost use Rattle.srm_codec.specs.Spelling.{spelling};
-ghost use Rattle.srm_record.specs.Calls.{is_idle, acts_by, acts, call_of, line_of, lines_of, last_after, last_recorded};
+ghost use Rattle.srm_replays.specs.Calls.{is_idle, acts_by, acts};
+ghost use Rattle.srm_record.specs.Calls.{call_of, line_of, lines_of, last_after, last_recorded};
 
 use bytes::Bytes;
 use srm_codec::{Datagram, encodable, encode};

@@ -1,6 +1,11 @@
+use Rattle.std.proofs.Common.{take}
 use Rattle.rand_pcg.specs.Pcg.{pcg64}
+use Rattle.srm_record.specs.Making.{MakesAll}
 use Rattle.srm_record.specs.Replays.{GoesOn}
 use Rattle.srm_record.proofs.replaying.make_all.Given as goal
 
 abbrev pub invariant-loop-line : goal.invariant-loop-line
-invariant-loop-line l = GoesOn pcg64 l.fn.recorder l.recorder
+invariant-loop-line l = record {
+  goes : GoesOn pcg64 l.fn.recorder l.recorder;
+  makes : MakesAll (take l.line-index l.lines) l.fn.recorder.journal l.recorder.journal;
+}
