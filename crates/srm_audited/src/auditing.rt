@@ -1,0 +1,143 @@
+//! Records, put together.
+
+ghost use Rattle.std.specs.Prelude.{◌≡◌, [], Some, IfErr, IfOk, MatchOption};
+ghost use Rattle.srm_gaps.specs.Possible.{HasOrder};
+ghost use Rattle.srm_audited.specs.Sessions.{AreOf};
+ghost use Rattle.srm_gaps.specs.Gaps.{AreComplete};
+ghost use Rattle.srm_audited.specs.Verdicts.{AreHonest, ArePart, IsMismatch, IsUntoldAt, IsVerdict, IsVerdictOn, verdict_of_part, verdict_of_whole};
+
+use crate::gathering::{Gathered, add};
+use crate::verdict::{Reason, Verdict};
+use srm_audit::{Got, Mismatch, reconcile};
+use srm_frames::Record;
+use srm_gaps::{Told, are_complete, are_of_one_session, first_stuck, journals_of};
+use srm_world::Trace;
+use std::alloc::{AllocError, Global};
+
+/// Returns whether records, in any order, are one honest run of all members of a session.
+///
+/// `Honest` has the run: the calls of the records, each member's in their order, and then what page workers took. `NotHonest` says why no honest run has these records,
+/// whatever stands behind their cuts and in records that are missing; the first record that is of no run comes before all else. `Undecided` comes only where a record is missing or cut, and where each call could follow if the
+/// members of such records sent what was heard of them. Where a record is missing, what page workers took isn't compared with what they were given.
+///
+/// Fails only if out of memory. Makes each record's calls anew, once; stores the bytes of each datagram that was sent, twice where a record is missing or cut.
+pub fn audit(alloc: Global, records: &[Record]) -> Result<Verdict, AllocError>
+    ensures { IfOk result (IsVerdict records.now) }
+{
+    let mut gathered = Gathered {
+        told: Vec::new(alloc),
+        gots: Vec::new(alloc),
+    };
+    match gather(alloc, &mut gathered, records) {
+        Ok(None) => judge(alloc, gathered),
+        Ok(Some(place)) => Ok(Verdict::NotHonest(Reason::Untold { place })),
+        Err(error) => Err(error),
+    }
+}
+
+// Makes the calls of records anew, up to the first record that is of no run: its place.
+#[tactic(auto, using(crate::proofs::SoFar::none_of, crate::proofs::SoFar::untold_at))]
+fn gather(
+    alloc: Global,
+    gathered: &mut Gathered,
+    records: &[Record],
+) -> Result<Option<usize>, AllocError>
+    requires empty { gathered.old.told.items ≡ [] }
+    requires none { gathered.old.gots.items ≡ [] }
+    ensures { IfOk result (λ untold. MatchOption untold (AreOf records.now gathered.new.told.items gathered.new.gots.items) (IsUntoldAt records.now)) }
+{
+    for (place, read) in records.iter().enumerate() {
+        let told = add(alloc, gathered, read)?;
+        if !told {
+            return Ok(Some(place));
+        }
+    }
+    Ok(None)
+}
+
+#[tactic(auto, using(crate::proofs::Judged::no_roster, crate::proofs::Judged::are_part))]
+fn judge(alloc: Global, gathered: Gathered) -> Result<Verdict, AllocError>
+    ensures { IfOk result (IsVerdictOn gathered.told.items gathered.gots.items) }
+{
+    let Gathered { told, gots } = gathered;
+    if are_complete(&told) {
+        return conclude(alloc, told, gots);
+    }
+    if !are_of_one_session(&told) {
+        return Ok(Verdict::NotHonest(Reason::Roster));
+    }
+    suppose(alloc, told, gots)
+}
+
+// The verdict where no record is missing or cut.
+fn conclude(alloc: Global, told: Vec<Told>, gots: Vec<Got>) -> Result<Verdict, AllocError>
+    requires { AreComplete told.items }
+    ensures { IfOk result (IsVerdictOn told.items gots.items) }
+{
+    match put_together(alloc, told, gots) {
+        Ok(trace) => Ok(Verdict::Honest(trace)),
+        Err(mismatch) => told_of_whole(mismatch),
+    }
+}
+
+fn told_of_whole(mismatch: Mismatch) -> Result<Verdict, AllocError>
+    ensures { IfOk result (λ verdict. verdict_of_whole mismatch ≡ Some verdict) }
+{
+    match mismatch {
+        Mismatch::Memory => Err(AllocError),
+        Mismatch::Roster => Ok(Verdict::NotHonest(Reason::Roster)),
+        Mismatch::Foreign { member, slot } => {
+            Ok(Verdict::NotHonest(Reason::Foreign { member, slot }))
+        }
+        Mismatch::Unsent { member, entry } => {
+            Ok(Verdict::NotHonest(Reason::Unsent { member, entry }))
+        }
+    }
+}
+
+// The verdict where a record is missing or cut.
+#[tactic(auto, using(crate::proofs::Judged::stuck_unsent))]
+fn suppose(alloc: Global, told: Vec<Told>, gots: Vec<Got>) -> Result<Verdict, AllocError>
+    requires { ArePart told.items }
+    ensures { IfOk result (IsVerdictOn told.items gots.items) }
+{
+    match first_stuck(alloc, &told)? {
+        Some((member, entry)) => Ok(Verdict::NotHonest(Reason::Unsent { member, entry })),
+        None => decide(alloc, told, gots),
+    }
+}
+
+// The verdict where a record is missing or cut, and the calls have a possible order.
+fn decide(alloc: Global, told: Vec<Told>, gots: Vec<Got>) -> Result<Verdict, AllocError>
+    requires part { ArePart told.items }
+    requires order { HasOrder told.items }
+    ensures { IfOk result (IsVerdictOn told.items gots.items) }
+{
+    match put_together(alloc, told, gots) {
+        Ok(trace) => Ok(Verdict::Honest(trace)),
+        Err(mismatch) => told_of_part(mismatch),
+    }
+}
+
+fn told_of_part(mismatch: Mismatch) -> Result<Verdict, AllocError>
+    ensures { IfOk result (λ verdict. verdict_of_part mismatch ≡ Some verdict) }
+{
+    match mismatch {
+        Mismatch::Memory => Err(AllocError),
+        Mismatch::Foreign { member, slot } => {
+            Ok(Verdict::NotHonest(Reason::Foreign { member, slot }))
+        }
+        Mismatch::Roster | Mismatch::Unsent { .. } => Ok(Verdict::Undecided),
+    }
+}
+
+// The journals and lists as they are, put together into one honest run.
+fn put_together(alloc: Global, told: Vec<Told>, gots: Vec<Got>) -> Result<Trace, Mismatch>
+    ensures honest { IfOk result (AreHonest told.items gots.items) }
+    ensures refused { IfErr result (IsMismatch told.items gots.items) }
+{
+    let Ok(journals) = journals_of(alloc, told) else {
+        return Err(Mismatch::Memory);
+    };
+    reconcile(alloc, journals, gots)
+}

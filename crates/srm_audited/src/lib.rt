@@ -1,0 +1,23 @@
+//! The records of a session, judged: whether they are one honest run.
+//!
+//! ```
+//! let mut records = Vec::new(alloc);
+//! records.push(read_record(alloc, bytes)?)?;
+//! match audit(alloc, records.as_slice())? {
+//!     Verdict::Honest(trace) => {}        // the run, all of it
+//!     Verdict::NotHonest(reason) => {}    // no honest run has these records
+//!     Verdict::Undecided => {}            // perhaps: a record is missing or cut
+//! }
+//! ```
+//!
+//! Contracts pin each verdict. An honest one has the run, which is lawful and honest. One that isn't honest names a record that no run of its member has, a list that isn't what its
+//! member gave, or an entry that hears what nobody can have sent, whatever stands behind the cuts of records and in those that are missing. `Undecided` comes only where a record is
+//! missing or cut, and the records as they are aren't one honest run. Then all calls have a possible order: each hears what was sent, or what such a member may have sent.
+#![tactic(auto)]
+
+mod auditing;
+mod gathering;
+mod verdict;
+
+pub use auditing::audit;
+pub use verdict::{Reason, Verdict};
