@@ -1,6 +1,6 @@
 //! The thread that draws what is typed, and the producers that nobody uses.
 
-ghost use Rattle.std.specs.Prelude.{◌≡◌, ◌∷◌, None, IfSome};
+ghost use Rattle.std.specs.Prelude.{◌≡◌, ◌∷◌, None, IfSome, IsSome};
 ghost use Rattle.srm_live.specs.LiveRuns.{HaveTyped};
 
 use crate::desk::Desk;
@@ -130,6 +130,7 @@ fn all_done(alloc: Global, pens: VecDeque<Pen>) -> Option<Vec<Inked>>
 pub fn join_typing<R: Threads, I: Read>(rt: &R, typing: Option<Typing<I>>) -> Option<TypedPens>
     ensures typed { IfSome result (λ p. IfSome typing (λ t. HaveTyped (I.remaining t.first.promise.1.value) (t.first.promise.0.value.pen ∷ t.others.items) t.first.promise.0.value.control p.first p.others.items p.control)) }
     ensures none { typing ≡ None → result ≡ None }
+    ensures some { IsSome typing → IsSome result }
 {
     match typing {
         Some(typing) => Some(join_pens_of(rt, typing)),
