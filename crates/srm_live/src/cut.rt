@@ -1,5 +1,9 @@
 //! Why what is typed isn't drawn to its end.
 
+ghost use Rattle.std.specs.Prelude.{◌≡◌};
+ghost use Rattle.srm_script.specs.declared.fault.ScriptFault.TheVariants.{Memory};
+ghost use Rattle.srm_live.specs.declared.cut.ReadingEnd.TheVariants.{Fault};
+
 use srm_script::ScriptFault;
 use std::alloc::AllocError;
 
@@ -15,6 +19,8 @@ pub enum ReadingEnd {
 }
 
 impl From<AllocError> for ReadingEnd {
+    ghost from_gives = { λ _ gives. gives ≡ Fault Memory };
+
     fn from(_error: AllocError) -> ReadingEnd {
         ReadingEnd::Fault(ScriptFault::Memory)
     }
