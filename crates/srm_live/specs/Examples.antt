@@ -2,12 +2,13 @@
 use Rattle.std.specs.Prelude.{◌≡◌, Bool, true, false, [], ◌∷◌, ◌++◌, length, map, replicate, refl, codes, Option, Some, None, Ok, Err}
 use Rattle.std.proofs.Common.{inl, inr, ⊎_elim, ap}
 use Rattle.srm_names.specs.declared.page.Page.{Page}
-use Rattle.srm_names.specs.Names.{first_page}
+use Rattle.srm_names.specs.Names.{first_page, named, stream_on}
 use Rattle.srm_live.specs.declared.command.Command.TheVariants.{Show, Begin, Pages, Who, Leave, Help}
 use Rattle.srm_live.specs.declared.typed.Typed.TheVariants.{Stroke, TooLong, Order}
 use Rattle.bstr.specs.Utf8.{pieces_from}
 use Rattle.srm_live.specs.Commands.{said_of, page_in}
 use Rattle.srm_live.specs.Readable.{readable_text}
+use Rattle.srm_live.specs.Needs.{asks_for_held}
 use Rattle.srm_control.specs.declared.command.PageCommand.TheVariants as commands
 use Rattle.srm_control.specs.declared.command.PageRefusal.TheVariants.{NoSlot}
 use Rattle.srm_control.specs.declared.command.PageAnswer.{PageAnswer}
@@ -127,3 +128,12 @@ pages_that_answers_begin_are_counted = refl
 an_escape_and_a_wild_byte_are_question_marks : readable_text (97 ∷ 0xC3 ∷ 0xA9 ∷ 27 ∷ 0xFF ∷ 98 ∷ []) ≡ 97 ∷ 0xC3 ∷ 0xA9 ∷ 63 ∷ 63 ∷ 98 ∷ []
 unfolding pieces_from lib.Utf8.encode
 an_escape_and_a_wild_byte_are_question_marks = refl
+
+-- WHO IS NEEDED
+
+-- of these drawops one is held and one is missing
+one_of_two_is_held : asks_for_held (named (stream_on 1 first_page) 6 ∷ []) (named (stream_on 1 first_page) 5 ∷ named (stream_on 1 first_page) 6 ∷ []) ≡ true
+one_of_two_is_held = refl
+
+both_are_missing : asks_for_held (named (stream_on 1 first_page) 5 ∷ named (stream_on 1 first_page) 6 ∷ []) (named (stream_on 1 first_page) 5 ∷ named (stream_on 1 first_page) 6 ∷ []) ≡ false
+both_are_missing = refl

@@ -4,5 +4,6 @@ pub mod Earlier
 pub mod Examples
 pub mod LiveRuns
 pub mod LiveStatuses
+pub mod Needs
 pub mod Readable
 pub mod Typing

@@ -1,11 +1,13 @@
 //! A node's history that notes what others need of the member.
 
-ghost use Rattle.std.specs.Prelude.{◌≡◌};
+ghost use Rattle.std.specs.Prelude.{◌≡◌, IfOk};
+ghost use Rattle.srm_codec.specs.Spelling.{IsSpellable, names_in as the_names_in};
+ghost use Rattle.srm_live.specs.Needs.{asks_for_held};
 
 use crate::need::Need;
 use indexmap::IndexSet;
 use srm_agent::{Effects, Entry, Input, Verdict};
-use srm_codec::Datagram;
+use srm_codec::{Datagram, encodable, names_in};
 use srm_names::Name;
 use srm_timers::ArmKind;
 use srm_world::Past;
@@ -61,6 +63,7 @@ impl<P: Past<Entry> + Drop> Past<Entry> for Needed<P> {
 // or leave before a repair that it sends or waits for.
 #[derive(Drop)]
 struct Notes {
+    alloc: Global,
     missing: IndexSet<Name>,
     repairs: IndexSet<Name>,
     need: Arc<Need, Global>,
@@ -69,6 +72,7 @@ struct Notes {
 impl Notes {
     fn new(alloc: Global, need: Arc<Need, Global>) -> Notes {
         Notes {
+            alloc,
             missing: IndexSet::new(alloc),
             repairs: IndexSet::new(alloc),
             need,
@@ -96,7 +100,6 @@ impl Notes {
         }
     }
 
-    // A request counts, unless the one name that it asks for is missing here too.
     fn hear(&mut self, datagram: &Datagram) {
         match datagram {
             Datagram::Data(drawop) => {
@@ -106,12 +109,15 @@ impl Notes {
                 self.missing.swap_remove(&drawop.name);
                 self.repairs.swap_remove(&drawop.name);
             }
-            Datagram::Request { name, mask, .. } => {
-                if *mask != 0 || !self.missing.contains(name) {
-                    self.need.note_asked();
-                }
-            }
+            Datagram::Request { .. } => self.hear_request(datagram),
             Datagram::Session { .. } => {}
+        }
+    }
+
+    // A request counts, unless all that it asks for is missing here too. If out of memory, it counts.
+    fn hear_request(&self, datagram: &Datagram) {
+        if !encodable(datagram) || names_held(self.alloc, &self.missing, datagram).unwrap_or(true) {
+            self.need.note_asked();
         }
     }
 
@@ -125,4 +131,17 @@ impl Notes {
             }
         }
     }
+}
+
+// Returns whether a request that was heard asks for a stroke that is held, where these are missing.
+fn names_held(
+    alloc: Global,
+    missing: &IndexSet<Name>,
+    datagram: &Datagram,
+) -> Result<bool, AllocError>
+    requires { IsSpellable datagram.now }
+    ensures { IfOk result (λ held. held ≡ asks_for_held missing.now.keys (the_names_in datagram.now)) }
+{
+    let names = names_in(alloc, datagram)?;
+    Ok(names.iter().any(|name| !missing.contains(name)))
 }

@@ -6,7 +6,7 @@ use mio::net::UdpSocket;
 use srm_codec::{Datagram, decode};
 use srm_live::run_live;
 use srm_options::read_node;
-use srm_rig::datagrams::{Kind, request, word};
+use srm_rig::datagrams::{Kind, request, requests, word};
 use std::alloc::{AllocError, Global};
 use std::net::{Net, SocketAddr};
 use std::rt::Files;
@@ -23,6 +23,9 @@ const SESSION: u32 = 7;
 const REQUESTS: u32 = 15;
 
 const BETWEEN: u64 = 100_000;
+
+/// So often strokes are asked for that nobody drew: longer than a member waits for what it misses.
+const FORGED: u32 = 120;
 
 /// So many microseconds after its second stroke the other member sends its first one. Else the member would have left by then.
 const OWED: u64 = 4_000_000;
@@ -60,15 +63,25 @@ struct Heard {
     sessions: u32,
 }
 
-/// The other member. From when the first stroke came on it asks for that again and again or, if it owes strokes, sends its second one and later its first one. Then it
-/// listens until the farewell.
+/// What the other member does once the first stroke came.
+#[derive(Clone, Copy, PartialEq, Eq)]
+enum Role {
+    /// It asks for that stroke again and again.
+    Asks,
+    /// It sends its own second stroke, and later its first one.
+    Owes,
+    /// It asks again and again for strokes that nobody drew, several by each request.
+    Forges,
+}
+
+/// The other member. It listens until the farewell.
 #[derive(Drop)]
 struct Other<R: Clock + Wait + Drop> {
     rt: R,
     alloc: Global,
     socket: UdpSocket,
     to: SocketAddr,
-    owes: bool,
+    role: Role,
     has_stroke: bool,
     sent: u32,
     sent_at: Instant,
@@ -95,10 +108,11 @@ impl<R: Clock + Wait + Drop> Other<R> {
 
     /// How many datagrams it sends in all, and how many microseconds lie between the last one and the next.
     fn pace(&self) -> (u32, u64) {
-        match (self.owes, self.sent) {
-            (true, 0) => (2, 0),
-            (true, _) => (2, OWED),
-            (false, _) => (REQUESTS, BETWEEN),
+        match (self.role, self.sent) {
+            (Role::Owes, 0) => (2, 0),
+            (Role::Owes, _) => (2, OWED),
+            (Role::Asks, _) => (REQUESTS, BETWEEN),
+            (Role::Forges, _) => (FORGED, BETWEEN),
         }
     }
 
@@ -109,11 +123,13 @@ impl<R: Clock + Wait + Drop> Other<R> {
         if !self.has_stroke || self.sent >= most || passed < Duration::from_micros(between) {
             return Some(());
         }
-        let _ = if self.owes {
-            let stroke = word(Kind::Data, 1, 1, 0, most.saturating_sub(self.sent));
-            self.socket.send_to(&stroke, self.to)
-        } else {
-            self.socket.send_to(&request(1, 0, 0, 1), self.to)
+        let _ = match self.role {
+            Role::Owes => {
+                let stroke = word(Kind::Data, 1, 1, 0, most.saturating_sub(self.sent));
+                self.socket.send_to(&stroke, self.to)
+            }
+            Role::Asks => self.socket.send_to(&request(1, 0, 0, 1), self.to),
+            Role::Forges => self.socket.send_to(&requests(1, 1, 5, 0b101), self.to),
         };
         self.sent = self.sent.saturating_add(1);
         self.sent_at = Instant::now(&self.rt).ok()?;
@@ -138,7 +154,7 @@ impl<R: Clock + Wait + Drop> Other<R> {
 }
 
 /// Runs a live member with one stroke beside another one. Its status, and what the other heard.
-fn run_beside<R>(rt: &R, linger: u64, owes: bool) -> Result<(u8, Option<Heard>), Fail>
+fn run_beside<R>(rt: &R, linger: u64, role: Role) -> Result<(u8, Option<Heard>), Fail>
 where
     R: Net + Files + Clock + Threads + Wait + AllocGlobal + Copy + Send + Drop + 'static,
 {
@@ -155,7 +171,7 @@ where
         alloc,
         socket,
         to,
-        owes,
+        role,
         has_stroke: false,
         sent: 0,
         sent_at: Instant::now(rt)?,
@@ -171,7 +187,7 @@ where
 
 #[test]
 fn a_live_member_stays_while_it_is_asked(rt: HostRuntime) -> Result<(), Fail> {
-    let (status, heard) = run_beside(&rt, LINGER, false)?;
+    let (status, heard) = run_beside(&rt, LINGER, Role::Asks)?;
     assert_eq!(rt; status, 0);
     let heard = heard.ok_or("no farewell")?;
     assert!(rt; heard.quiet >= Duration::from_micros(LINGER));
@@ -181,7 +197,7 @@ fn a_live_member_stays_while_it_is_asked(rt: HostRuntime) -> Result<(), Fail> {
 
 #[test]
 fn a_live_member_stays_while_it_misses_a_stroke(rt: HostRuntime) -> Result<(), Fail> {
-    let (status, heard) = run_beside(&rt, LINGER, true)?;
+    let (status, heard) = run_beside(&rt, LINGER, Role::Owes)?;
     assert_eq!(rt; status, 0);
     let heard = heard.ok_or("no farewell")?;
     assert_eq!(rt; heard.sent, 2);
@@ -189,11 +205,21 @@ fn a_live_member_stays_while_it_misses_a_stroke(rt: HostRuntime) -> Result<(), F
     Ok(())
 }
 
+// It waits for what it misses itself, and no longer.
+#[test]
+fn a_live_member_does_not_stay_for_strokes_that_nobody_holds(rt: HostRuntime) -> Result<(), Fail> {
+    let (status, heard) = run_beside(&rt, LINGER, Role::Forges)?;
+    assert_eq!(rt; status, 0);
+    let heard = heard.ok_or("no farewell")?;
+    assert!(rt; heard.sent < FORGED);
+    Ok(())
+}
+
 #[test]
 fn a_live_member_that_does_not_linger_leaves_though_it_is_asked(
     rt: HostRuntime,
 ) -> Result<(), Fail> {
-    let (status, heard) = run_beside(&rt, 0, false)?;
+    let (status, heard) = run_beside(&rt, 0, Role::Asks)?;
     assert_eq!(rt; status, 0);
     let heard = heard.ok_or("no farewell")?;
     assert!(rt; heard.quiet < Duration::from_micros(LINGER));
