@@ -9,6 +9,8 @@ use Rattle.bstr.specs.Utf8.{pieces_from}
 use Rattle.srm_live.specs.Commands.{said_of, page_in}
 use Rattle.srm_live.specs.Readable.{readable_text}
 use Rattle.srm_live.specs.Needs.{asks_for_held}
+use Rattle.srm_live.specs.declared.presence.Standing.TheVariants.{Here, Left, Silent}
+use Rattle.srm_live.specs.News.{news_of}
 use Rattle.srm_control.specs.declared.command.PageCommand.TheVariants as commands
 use Rattle.srm_control.specs.declared.command.PageRefusal.TheVariants.{NoSlot}
 use Rattle.srm_control.specs.declared.command.PageAnswer.{PageAnswer}
@@ -137,3 +139,11 @@ one_of_two_is_held = refl
 
 both_are_missing : asks_for_held (named (stream_on 1 first_page) 5 ∷ named (stream_on 1 first_page) 6 ∷ []) (named (stream_on 1 first_page) 5 ∷ named (stream_on 1 first_page) 6 ∷ []) ≡ false
 both_are_missing = refl
+
+-- NEWS
+
+who_is_heard_after_silence_is_here_again : news_of Silent Here ≡ Some (codes "is here again")
+who_is_heard_after_silence_is_here_again = refl
+
+who_left_is_not_here_again : news_of Left Here ≡ None
+who_left_is_not_here_again = refl

@@ -5,5 +5,6 @@ pub mod Examples
 pub mod LiveRuns
 pub mod LiveStatuses
 pub mod Needs
+pub mod News
 pub mod Readable
 pub mod Typing

@@ -1,5 +1,8 @@
 //! What a live member tells of the others, and of itself, once each.
 
+ghost use Rattle.std.specs.Prelude.{◌≡◌, option_map};
+ghost use Rattle.srm_live.specs.News as spec;
+
 use crate::desk::Desk;
 use crate::dropped::Dropped;
 use crate::presence::{Presence, Standing};
@@ -92,7 +95,9 @@ fn tell<R: Wait, O: Write, E: Write>(rt: &R, desk: &Desk<O, E>, member: Member, 
 }
 
 // Returns what to tell of a member whose standing changed.
-fn news_of(before: Standing, now: Standing) -> Option<&'static str> {
+fn news_of(before: Standing, now: Standing) -> Option<&'static str>
+    ensures { option_map (λ text. text.now) result ≡ spec.news_of before now }
+{
     match (before, now) {
         (Standing::Unheard, Standing::Here) => Some("is here"),
         (Standing::Silent, Standing::Here) => Some("is here again"),
