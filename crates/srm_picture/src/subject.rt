@@ -1,5 +1,7 @@
 //! The session that a picture is of.
 
+ghost use Rattle.std.specs.Prelude.{◌≡◌, [], map, slice_get, unwrap_or};
+
 use srm_entries::Entry;
 
 /// The session that a picture is of: what a drawing needs besides the shapes.
@@ -15,7 +17,9 @@ pub struct Subject<'a> {
 
 impl Subject<'_> {
     /// Returns the lines of an entry, by its place from 0; none if there is no such entry.
-    pub fn lines_of(&self, index: usize) -> &[u8] {
+    pub fn lines_of(&self, index: usize) -> &[u8]
+        ensures { result.now ≡ unwrap_or (slice_get (map (λ lines. lines.items) self.now.lines.now) index) [] }
+    {
         match self.lines.get(index) {
             Some(lines) => lines.as_slice(),
             None => &[],
