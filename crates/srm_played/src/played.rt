@@ -1,10 +1,11 @@
 //! Playing scripts.
 
-ghost use Rattle.std.specs.Prelude.{◌≡◌, ◌<◌, ◌↔◌, Err, length, All, IfOk};
+ghost use Rattle.std.specs.Prelude.{◌≡◌, ◌⊎◌, ◌<◌, ◌↔◌, Err, length, All, IfOk, IfErr};
 ghost use Rattle.srm_world.specs.Traces.{IsRoster, started};
 ghost use Rattle.srm_world.specs.Events.{IsTimely};
 ghost use Rattle.srm_played.specs.Plays.{Plays, unplayed};
-ghost use Rattle.srm_played.specs.declared.fault.PictureFault.TheVariants.{TooManyEvents};
+ghost use Rattle.srm_script.specs.declared.fault.ScriptFault.TheVariants.{Memory};
+ghost use Rattle.srm_played.specs.declared.fault.PictureFault.TheVariants.{Script as OfScript, TooManyEvents};
 
 use crate::fault::PictureFault;
 use crate::hearing::advance;
@@ -46,6 +47,7 @@ pub fn play(alloc: Global, script: Script) -> Result<Played, PictureFault>
     requires timely { All IsTimely script.events.items }
     ensures refused { (result ≡ Err TooManyEvents) ↔ (MOST_EVENTS < length script.events.items) }
     ensures plays { IfOk result (Plays (unplayed (started script.configs.items)) script.events.items) }
+    ensures memory { IfErr result (λ fault. (fault ≡ TooManyEvents) ⊎ (fault ≡ OfScript Memory)) }
 {
     if script.events.len() > MOST_EVENTS {
         return Err(PictureFault::TooManyEvents);
@@ -62,7 +64,7 @@ pub fn play(alloc: Global, script: Script) -> Result<Played, PictureFault>
 }
 
 impl Played {
-    ghost use Rattle.std.specs.Prelude.{◌≡◌, length, All, IfOk, OnOk};
+    ghost use Rattle.std.specs.Prelude.{◌≡◌, length, All, IfOk, IfErr, OnOk};
     ghost use Rattle.srm_world.specs.Traces.{IsRoster, started};
     ghost use Rattle.srm_world.specs.Events.{IsTimely};
     ghost use Rattle.srm_picture.specs.Arrows.{AreArrivals};
@@ -118,7 +120,8 @@ impl Played {
     #[tactic(auto, using(crate::proofs::Playing::reaches_none, crate::proofs::Playing::reaches_more, crate::proofs::Playing::reaches_all))]
     fn run(&mut self, alloc: Global, events: Vec<Event>) -> Result<(), ScriptFault>
         requires { All IsTimely events.items }
-        ensures { OnOk result (Plays self.old events.items self.new) }
+        ensures plays { OnOk result (Plays self.old events.items self.new) }
+        ensures memory { IfErr result (λ fault. fault ≡ Memory) }
     {
         let mut printer = EntryPrinter::new(true);
         for event in events {
@@ -135,7 +138,8 @@ impl Played {
         event: Event,
     ) -> Result<(), ScriptFault>
         requires { IsTimely event }
-        ensures { OnOk result (PlaysOne self.old event self.new) }
+        ensures plays { OnOk result (PlaysOne self.old event self.new) }
+        ensures memory { IfErr result (λ fault. fault ≡ Memory) }
     {
         if !advance(&mut self.world, &mut self.arrivals, event)? {
             return Ok(());
@@ -150,8 +154,13 @@ fn keep_lines(
     world: &World<Listed>,
     printer: &mut EntryPrinter,
     lines: &mut Vec<Vec<u8>>,
-) -> Result<(), ScriptFault> {
+) -> Result<(), ScriptFault>
+    ensures { IfErr result (λ fault. fault ≡ Memory) }
+{
     let mut printed = Vec::new(alloc);
-    print_newest(world, printer, &mut printed).map_err(ScriptFault::of_output)?;
+    // What is printed into memory fails only without it.
+    if print_newest(world, printer, &mut printed).is_err() {
+        return Err(ScriptFault::Memory);
+    }
     Ok(lines.push(printed).map_err(AllocError::from)?)
 }
