@@ -1,3 +1,4 @@
 mod Cutting
 mod Arriving
 mod Counting
+mod Resting

@@ -1,5 +1,5 @@
 -- A wire over UDP at worked calls.
-use Rattle.std.specs.Prelude.{◌≡◌, true, [], ◌∷◌, Some, None, refl}
+use Rattle.std.specs.Prelude.{◌≡◌, ℕ, true, [], ◌∷◌, Some, None, refl}
 use Rattle.std.specs.declared.net.socket_addr.SocketAddr.{SocketAddr}
 use Rattle.std.proofs.Common.{arith, inl}
 use Rattle.srm_wire.specs.Wires.{greatest_count, answered_with, bytes_to, none_there}
@@ -7,6 +7,7 @@ use Rattle.srm_udp.specs.Clocks.{NeverFalls}
 use Rattle.srm_udp.specs.declared.loss.Loss.TheVariants.{Denied}
 use Rattle.srm_udp.specs.Inboxes.{Arrives, new_inbox, none_dropped, one_stranger}
 use Rattle.srm_udp.specs.Losses.{no_losses}
+use Rattle.srm_udp.specs.Resting.{PausesRested, came_with, rest_of}
 use Rattle.srm_udp.specs.Waiting.{cut, Takes}
 use Rattle.srm_udp.specs.Udp.{BringsNext, SendsOne, new_wire, one_more_failure, one_more_loss}
 
@@ -62,3 +63,32 @@ nobody_is_there = record {
   counts = refl;
   stranger = λ few. refl;
 }
+
+-- a pause rests after two datagrams, for 100 microseconds at most and no longer than it lasts; what the wire below pauses is the rest of it
+rests_after_two : rest_of 2 10000 ≡ 100
+rests_after_two = refl
+
+not_after_one : rest_of 1 10000 ≡ 0
+not_after_one = refl
+
+not_longer_than_the_pause : rest_of 7 60 ≡ 60
+not_longer_than_the_pause = refl
+
+abbrev notes : ℕ → ℕ → ℕ → Type 0
+notes old micros new = new ≡ micros
+
+pauses_for_the_rest : PausesRested notes (record { wire = 0; came = 2 }) 10000 (record { wire = 9900; came = 0 })
+pauses_for_the_rest = (refl, refl)
+
+not_for_nothing : PausesRested notes (record { wire = 0; came = 2 }) 10000 (record { wire = 0; came = 0 }) → ⊥
+not_for_nothing h = cc (h.0)
+
+-- a pause of nothing doesn't rest, and what came counts for the next
+keeps_what_came : PausesRested notes (record { wire = 5; came = 2 }) 0 (record { wire = 0; came = 2 })
+keeps_what_came = (refl, refl)
+
+one_came : came_with (answered_with (1 ∷ [])) 4 ≡ 5
+one_came = refl
+
+none_came : came_with none_there 4 ≡ 4
+none_came = refl

@@ -3,4 +3,5 @@ pub mod Losses
 pub mod Waiting
 pub mod Inboxes
 pub mod Udp
+pub mod Resting
 pub mod Examples

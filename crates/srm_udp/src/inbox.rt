@@ -5,6 +5,7 @@ ghost use Rattle.srm_udp.specs.Inboxes.{Arrives, GivesNext, IsStrange, NextFits,
 
 use crate::backlog::Backlog;
 use crate::dropped::Dropped;
+use crate::first_failure::FirstFailure;
 use crate::loss::{Loss, loss_of};
 use crate::roster::is_of_roster;
 use mio::net::UdpSocket;
@@ -13,6 +14,7 @@ use std::io;
 use std::io::ErrorKind;
 use std::marker::Model;
 use std::net::SocketAddr;
+use std::sync::Arc;
 
 /// Datagrams that are taken in at once, at most.
 const TAKEN_AT_ONCE: usize = 256;
@@ -26,6 +28,7 @@ pub(crate) struct Inbox {
     dropped: Dropped,
     // The error that the system told on receiving and that no receive answered yet: the kind of a loss, or None where the socket failed.
     pending: Option<Option<Loss>>,
+    failure: Arc<FirstFailure, Global>,
 }
 
 /// What comes next out of an inbox.
@@ -52,8 +55,12 @@ impl Model for Inbox {
 }
 
 impl Inbox {
-    /// Makes an empty inbox with room for what [`Backlog`] keeps. Fails only if out of memory.
-    pub(crate) fn new(alloc: Global, roster: Vec<SocketAddr>) -> Result<Inbox, AllocError>
+    /// Makes an empty inbox with room for what [`Backlog`] keeps, which notes a receive that fails. Fails only if out of memory.
+    pub(crate) fn new(
+        alloc: Global,
+        roster: Vec<SocketAddr>,
+        failure: Arc<FirstFailure, Global>,
+    ) -> Result<Inbox, AllocError>
         ensures { IfOk result (λ b. b ≡ new_inbox roster.items) }
     {
         Ok(Inbox {
@@ -62,6 +69,7 @@ impl Inbox {
             backlog: Backlog::new(alloc)?,
             dropped: Dropped::none(),
             pending: None,
+            failure,
         })
     }
 
@@ -128,6 +136,7 @@ impl Inbox {
             }
             Err(error) if error.kind() == ErrorKind::WouldBlock => Told::Nothing,
             Err(error) => {
+                self.failure.note_receive(&error);
                 self.pending = Some(loss_of(&error));
                 Told::Failed
             }

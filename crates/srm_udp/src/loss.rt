@@ -65,7 +65,8 @@ impl Losses {
     }
 }
 
-fn one_more(count: u64) -> u64
+// Returns one more, up to the greatest u64.
+pub(crate) fn one_more(count: u64) -> u64
     ensures { result ≡ one_more count }
 {
     count.saturating_add(1)

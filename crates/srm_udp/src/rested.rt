@@ -1,7 +1,10 @@
 //! A wire that rests while datagrams come close together.
 
-ghost use Rattle.std.specs.Prelude.{◌≡◌, ◌≤◌};
+ghost use Rattle.std.specs.Prelude.{◌≡◌, ℕ, ◌-◌, List};
+ghost use Rattle.srm_wire.specs.Wires.{answered};
+ghost use Rattle.srm_udp.specs.Resting.{came_with, new_rested, rest_of};
 
+use crate::loss::one_more;
 use srm_names::Member;
 use srm_wire::{Wire, WireFault};
 use std::marker::Model;
@@ -13,33 +16,37 @@ const REST: u64 = 100;
 
 /// A wire over another one, which rests while datagrams come close together: if two or more came since the last pause that waited, a pause begins with 100 microseconds
 /// in which neither a datagram nor a wake ends it. A node hears several in its next turn then, and this thread and each page worker wake once for all of them. A
-/// datagram that comes by itself ends a pause at once. Everything else is as with the wire below, and contracts see that.
+/// datagram that comes by itself ends a pause at once. Everything else is as with the wire below. Contracts see that, how many datagrams came, and for how long the wire
+/// below pauses.
 #[derive(Drop)]
 pub struct Rested<R: Clock + Drop, X: Wire + Drop> {
     rt: R,
     wire: X,
     // How many datagrams came since the last pause that waited.
-    came: u32,
+    came: u64,
 }
 
 impl<R: Clock + Drop, X: Wire + Drop> Model for Rested<R, X> {
-    ghost Value = { X };
+    ghost use Rattle.srm_udp.specs.Resting.{RestedView};
 
-    ghost view = { λ r. r.wire };
+    ghost Value = { RestedView X };
+
+    ghost view = { λ r. record { wire = r.wire; came = r.came } };
 }
 
 impl<R: Clock + Drop, X: Wire + Drop> Rested<R, X> {
     /// Returns a wire over this one.
     pub fn new(rt: R, wire: X) -> Rested<R, X>
-        ensures { result ≡ wire }
+        ensures { result ≡ new_rested wire }
     {
         Rested { rt, wire, came: 0 }
     }
 
+    #[tactic(auto, using(crate::proofs::Resting::rests_none, crate::proofs::Resting::rests_some))]
     // Rests if datagrams come close together, but no longer than a pause may last. Returns how much of the pause is left.
     fn rest(&mut self, micros: u64) -> u64
-        ensures left { result ≤ micros }
-        ensures same { self.new ≡ self.old }
+        ensures left { result ≡ micros - rest_of self.old.came micros }
+        ensures begins { self.new ≡ record self.old { came = 0 } }
     {
         let came = self.came;
         self.came = 0;
@@ -53,17 +60,17 @@ impl<R: Clock + Drop, X: Wire + Drop> Rested<R, X> {
 }
 
 impl<R: Clock + Drop, X: Wire + Drop> Wire for Rested<R, X> {
-    ghost use Rattle.std.specs.Prelude.{ℕ, ◌≤◌};
+    ghost use Rattle.srm_udp.specs.Resting.{SendsRested, ReceivesRested, PausesRested};
 
-    ghost failure_count = { λ r. X.failure_count r };
+    ghost failure_count = { λ r. X.failure_count r.wire };
 
-    ghost told = { λ r. X.told r };
+    ghost told = { λ r. X.told r.wire };
 
-    ghost sends = { λ r sent failed s. X.sends r sent failed s };
+    ghost sends = { λ r sent failed s. SendsRested X.sends r sent failed s };
 
-    ghost receives = { λ r room answer s. X.receives r room answer s };
+    ghost receives = { λ r room answer s. ReceivesRested X.receives r room answer s };
 
-    ghost pauses = { λ r micros s. (left : ℕ) × (left ≤ micros) × X.pauses r left s };
+    ghost pauses = { λ r micros s. PausesRested X.pauses r micros s };
 
     fn send(&mut self, to: Member, datagram: &[u8]) -> Result<(), WireFault> {
         self.wire.send(to, datagram)
@@ -71,12 +78,11 @@ impl<R: Clock + Drop, X: Wire + Drop> Wire for Rested<R, X> {
 
     fn receive(&mut self, buffer: &mut [u8]) -> Result<Option<usize>, WireFault> {
         let answer = self.wire.receive(buffer);
-        if let Ok(Some(_)) = answer {
-            self.came = self.came.saturating_add(1);
-        }
+        self.came = came_after(&answer, self.came);
         answer
     }
 
+    #[tactic(auto, using(crate::proofs::Resting::pauses_nothing, crate::proofs::Resting::pauses_rest))]
     /// Rests, if it does, and pauses the wire below for what is left of `micros`. A pause of 0 microseconds doesn't rest.
     fn pause(&mut self, micros: u64) {
         if micros == 0 {
@@ -89,5 +95,15 @@ impl<R: Clock + Drop, X: Wire + Drop> Wire for Rested<R, X> {
 
     fn failures(&self) -> u64 {
         self.wire.failures()
+    }
+}
+
+// Returns how many came by now, if so many came before this answer.
+fn came_after(answer: &Result<Option<usize>, WireFault>, came: u64) -> u64
+    ensures { (buffer : List ℕ) → result ≡ came_with (answered buffer answer.now) came }
+{
+    match answer {
+        Ok(Some(_)) => one_more(came),
+        Ok(None) | Err(_) => came,
     }
 }

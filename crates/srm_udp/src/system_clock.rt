@@ -1,5 +1,7 @@
 //! The system's monotonic clock.
 
+ghost use Rattle.std.specs.Prelude.{◌≡◌, IfOk};
+
 use srm_wire::Clock;
 use std::marker::Model;
 use std::time::Instant;
@@ -23,7 +25,9 @@ impl<R: time::Clock + Drop> Model for SystemClock<R> {
 
 impl<R: time::Clock + Drop> SystemClock<R> {
     /// Starts a clock at 0. Fails with the system's error if it can't read its own.
-    pub fn new(rt: R) -> io::Result<SystemClock<R>> {
+    pub fn new(rt: R) -> io::Result<SystemClock<R>>
+        ensures { IfOk result (λ clock. clock ≡ record { last = 0 }) }
+    {
         let start = Instant::now(&rt)?;
         Ok(SystemClock { rt, start, last: 0 })
     }

@@ -3,7 +3,9 @@
 mod five;
 mod rested;
 
-use crate::{Dropped, Loss, Losses, SystemClock, UdpWire, is_loss, loss_of};
+use crate::{
+    Dropped, FirstFailure, Loss, Losses, SystemClock, UdpWire, WireFailure, is_loss, loss_of,
+};
 use mio::net::UdpSocket;
 use srm_names::Member;
 use srm_wire::{Clock, Wire, WireFault};
@@ -232,13 +234,49 @@ fn a_datagram_that_is_too_long_for_its_way_is_lost(rt: HostRuntime) -> Result<()
 #[test]
 fn an_address_elsewhere_is_a_failure(rt: HostRuntime) -> Result<(), Fail> {
     // From a socket of loopback no way leads to another network.
-    let mut near = wire_to(
-        &rt,
-        rt.alloc(),
-        SocketAddr::from((Ipv4Addr::new(192, 0, 2, 1), 9)),
-    )?;
+    let elsewhere = SocketAddr::from((Ipv4Addr::new(192, 0, 2, 1), 9));
+    let mut near = wire_to(&rt, rt.alloc(), elsewhere)?;
+    let failure = near.first_failure()?;
+    assert_eq!(rt; failure.first(), None);
     assert_eq!(rt; send(&mut near, 0, b"far"), Err(WireFault));
     assert_eq!(rt; near.failures(), 1);
+    let sending = WireFailure::Send(elsewhere, ErrorKind::InvalidInput);
+    assert_eq!(rt; failure.first(), Some(sending));
+    Ok(())
+}
+
+#[test]
+fn the_first_failure_is_noted(rt: HostRuntime) -> Result<(), Fail> {
+    let (own, other) = (local(), SocketAddr::from((Ipv4Addr::LOCALHOST, 9)));
+    let failure = FirstFailure::new(own, [own, other].to_vec(rt.alloc())?);
+    let to = Member::new(1).ok_or("a member")?;
+    // What is lost is no failure, and a call that didn't fail is none either.
+    failure.note_receive(&io::Error::from_raw_os_error(111));
+    failure.note_send(to, &Ok(3));
+    assert_eq!(rt; failure.first(), None);
+    failure.note_send(to, &Err(io::Error::from_raw_os_error(22)));
+    failure.note_receive(&io::Error::from_raw_os_error(9));
+    let sending = WireFailure::Send(other, ErrorKind::InvalidInput);
+    assert_eq!(rt; failure.first(), Some(sending));
+    let text = format!(in rt.alloc(); "{sending}")?;
+    assert_eq!(rt;
+        text.as_str(),
+        "cannot send to 127.0.0.1:9: invalid input parameter"
+    );
+    Ok(())
+}
+
+#[test]
+fn a_receive_that_fails_is_noted(rt: HostRuntime) -> Result<(), Fail> {
+    let failure = FirstFailure::new(local(), Vec::new(rt.alloc()));
+    failure.note_receive(&io::Error::from_raw_os_error(12));
+    let receiving = WireFailure::Receive(local(), ErrorKind::OutOfMemory);
+    assert_eq!(rt; failure.first(), Some(receiving));
+    let text = format!(in rt.alloc(); "{receiving}")?;
+    assert_eq!(rt;
+        text.as_str(),
+        "cannot receive at 127.0.0.1:0: out of memory"
+    );
     Ok(())
 }
 

@@ -6,6 +6,7 @@ ghost use Rattle.srm_udp.specs.Inboxes.{GivesNext, NextFits, TakesIn};
 ghost use Rattle.srm_udp.specs.Udp.{AnswersNext, CountsEach, CountsReceive, ReceivesNext, SendsOne, after_error, after_next, after_send, new_wire, one_more_failure, send_fails, with_inbox};
 
 use crate::dropped::Dropped;
+use crate::first_failure::FirstFailure;
 use crate::inbox::{Inbox, Next};
 use crate::loss::{Loss, Losses, loss_of};
 use crate::room::ask_for_room;
@@ -53,6 +54,7 @@ pub struct UdpWire {
     // Whether the socket was found empty, and no pause found more since.
     drained: bool,
     failures: u64,
+    failure: Arc<FirstFailure, Global>,
     losses: Losses,
 }
 
@@ -83,7 +85,8 @@ impl UdpWire {
         UdpWire::over(rt, alloc, socket, addresses)
     }
 
-    /// Returns a wire over a bound socket to the members at `addresses`, by number. Fails with `OutOfMemory` if there are not some 5 MB, and with the system's error if it refuses to poll.
+    /// Returns a wire over a bound socket to the members at `addresses`, by number. Fails with `OutOfMemory` if there are not some 5 MB, and with the system's error if it refuses to poll
+    /// or to tell the socket's address.
     pub fn over(
         rt: &impl Net,
         alloc: Global,
@@ -94,6 +97,7 @@ impl UdpWire {
     {
         let mut socket = socket;
         ask_for_room(&socket);
+        let failure = note_failures(alloc, &socket, addresses.as_slice())?;
         let poll = Poll::new(rt)?;
         let events = Events::with_capacity(alloc, 2)?;
         poll.registry()
@@ -101,7 +105,7 @@ impl UdpWire {
         let waker = Arc::new(alloc, WireWaker::new(poll.registry(), WAKER)?)?;
         Ok(UdpWire {
             socket,
-            inbox: Inbox::new(alloc, addresses)?,
+            inbox: Inbox::new(alloc, addresses, Arc::try_clone(&failure)?)?,
             room: vec![in alloc; 0; LONGEST]?,
             calls: 0,
             poll,
@@ -109,6 +113,7 @@ impl UdpWire {
             waker,
             drained: false,
             failures: 0,
+            failure,
             losses: Losses::none(),
         })
     }
@@ -116,6 +121,11 @@ impl UdpWire {
     /// Returns a handle that ends this wire's pauses from any thread. Each call returns the same one. Fails only if out of memory.
     pub fn waker(&self) -> Result<Arc<WireWaker, Global>, AllocError> {
         Arc::try_clone(&self.waker)
+    }
+
+    /// Returns where any thread may read which call of this wire failed first, and why. Each call returns the same one. Fails only if out of memory.
+    pub fn first_failure(&self) -> Result<Arc<FirstFailure, Global>, AllocError> {
+        Arc::try_clone(&self.failure)
     }
 
     /// Returns how many datagrams were lost so far, as far as the system told, by kind.
@@ -198,13 +208,14 @@ impl UdpWire {
         }
     }
 
-    // Sends bytes to an address, and counts what the system answers.
-    fn send_to(&mut self, address: SocketAddr, datagram: &[u8]) -> Result<(), WireFault>
+    // Sends bytes to a member's address, and counts what the system answers.
+    fn send_to(&mut self, to: Member, address: SocketAddr, datagram: &[u8]) -> Result<(), WireFault>
         ensures failures { CountsIf (is_err result) self.old.failures self.new.failures }
         ensures each { CountsEach result self.old self.new }
         ensures inbox { self.new.inbox ≡ self.old.inbox }
     {
         let answer = self.socket.send_to(datagram, address);
+        self.failure.note_send(to, &answer);
         self.settle_send(datagram.len(), answer)
     }
 
@@ -248,7 +259,7 @@ impl UdpWire {
         let address = self.inbox.address(to.index());
         self.look(false);
         match address {
-            Some(address) => self.send_to(address, datagram),
+            Some(address) => self.send_to(to, address, datagram),
             None => Err(self.fail()),
         }
     }
@@ -321,4 +332,15 @@ impl Wire for UdpWire {
     fn failures(&self) -> u64 {
         self.failures
     }
+}
+
+// Makes the note of the calls that fail. Fails if out of memory, and with the system's error if it refuses to tell the socket's address.
+fn note_failures(
+    alloc: Global,
+    socket: &UdpSocket,
+    roster: &[SocketAddr],
+) -> io::Result<Arc<FirstFailure, Global>> {
+    let own = socket.local_addr()?;
+    let roster = roster.to_vec(alloc)?;
+    Ok(Arc::new(alloc, FirstFailure::new(own, roster))?)
 }
