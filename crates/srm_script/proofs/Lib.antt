@@ -1,4 +1,5 @@
 pub mod Decimals
+pub mod Inputs
 pub mod Newest
 pub mod Rosters
 pub mod Shown

@@ -1,8 +1,9 @@
 //! Why a script stops before its end.
 
-ghost use Rattle.std.specs.Prelude.{◌≡◌};
-ghost use Rattle.srm_script.specs.declared.fault.ScriptFault.TheVariants.{Memory};
-ghost use Rattle.srm_script.specs.Statuses.{status_of};
+ghost use Rattle.std.specs.Prelude.{◌≡◌, ◌⊎◌};
+ghost use Rattle.std.specs.IoError.{error_kind};
+ghost use Rattle.srm_script.specs.declared.fault.ScriptFault.TheVariants.{Memory, StandardInput, Output};
+ghost use Rattle.srm_script.specs.Statuses.{fault_of_kind, status_of};
 
 use crate::status::{FAILED, RAN_OUT};
 use srm_world::WorldFault;
@@ -53,12 +54,18 @@ impl ScriptFault {
     }
 
     /// Returns the fault of an error in reading standard input: out of memory, or else that it can't be read.
-    pub fn of_input(error: io::Error) -> ScriptFault {
+    pub fn of_input(error: io::Error) -> ScriptFault
+        ensures value { result ≡ fault_of_kind (error_kind error) StandardInput }
+        ensures one { (result ≡ Memory) ⊎ (result ≡ StandardInput) }
+    {
         of_io(error, ScriptFault::StandardInput)
     }
 
     /// Returns the fault of an error in writing standard output: out of memory, or else that it can't be written.
-    pub fn of_output(error: io::Error) -> ScriptFault {
+    pub fn of_output(error: io::Error) -> ScriptFault
+        ensures value { result ≡ fault_of_kind (error_kind error) Output }
+        ensures one { (result ≡ Memory) ⊎ (result ≡ Output) }
+    {
         of_io(error, ScriptFault::Output)
     }
 }
@@ -73,7 +80,10 @@ pub fn print_fault<F: fmt::Display, E: Write>(fault: &F, err: &mut E, status: u8
 }
 
 // Out of memory, or else this fault.
-fn of_io(error: io::Error, other: ScriptFault) -> ScriptFault {
+fn of_io(error: io::Error, other: ScriptFault) -> ScriptFault
+    ensures value { result ≡ fault_of_kind (error_kind error) other }
+    ensures one { (result ≡ Memory) ⊎ (result ≡ other) }
+{
     match error.kind() {
         io::ErrorKind::OutOfMemory => ScriptFault::Memory,
         _ => other,
