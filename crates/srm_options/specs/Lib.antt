@@ -1,1 +1,3 @@
+pub mod Boards
+pub mod Examples
 pub mod Options

@@ -38,18 +38,19 @@ The member leaves once its time is up and all strokes are drawn. Then it prints
 
 With --live each line is drawn as it is typed, by one pen and however many there
 are, and each line above is printed as it is taken, its TEXT in UTF-8. A line that
-begins with / is a command: /help names them, and //x draws /x. A line that is too
-long is told on standard error and not drawn. The member stays on at the end of
-input, and then as long as others ask for what it holds, for 30 seconds at most, and
-leaves; so it does at /leave, where its output is closed, and at a signal (INT, TERM,
-HUP) where ./srm started it; a second signal ends it at once. Standard error tells
-who of the others is here, was silent for 10 seconds or left, that the member was in
-the session before under its number, why its address can't be bound, and at the end
-who was not heard leaving, of which streams drawops are missing, how many datagrams
-the network refused to take, and how many came and were dropped, by cause. On a
-terminal the title of the window shows each second how many of the others were heard,
-how many drawops are missing, how many datagrams came and were sent, how many of those
-sent were requests and repairs, and how many the network refused.
+begins with / is a command: /page C.P and /new turn to another page, /help names
+them all, and //x draws /x. A line that is too long is told on standard error and
+not drawn. The member stays on at the end of input, and then as long as others ask
+for what it holds, for 30 seconds at most, and leaves; so it does at /leave, where
+its output is closed, and at a signal (INT, TERM, HUP) where ./srm started it; a
+second signal ends it at once. Standard error tells who of the others is here, was
+silent for 10 seconds or left, that the member was in the session before under its
+number, why its address can't be bound or which call of its socket failed, and at
+the end who was not heard leaving, of which streams drawops are missing, how many
+datagrams the network refused to take, and how many came and were dropped, by cause.
+On a terminal the title of the window shows each second how many of the others were
+heard, how many drawops are missing, how many datagrams came and were sent, how many
+of those sent were requests and repairs, and how many the network refused.
 
 Status: 0; 1 for a line that is too long or an input of more than 1000000 bytes,
 but not with --live, for a stream that fails, or for a key that can't be used; 2
@@ -105,4 +106,21 @@ tick with nothing to do prints nothing.
 
 Status: 0; 1 for a bad line, a script of more than 1000000 bytes or a stream that
 fails; 2 for a wrong command line; 4 for want of memory.
+";
+
+/// What `srm board` does.
+pub const BOARD: &str =
+    "A member over UDP on whose board one draws in a browser, live with all others";
+
+/// What `srm board --help` prints behind its options.
+pub const BOARD_MORE: &str = "\
+It prints where the page is on standard error, as `srm: draw at
+http://127.0.0.1:8080/TOKEN/`, and runs until somebody leaves there, or until the
+end of input at a terminal (Ctrl-D). At its end standard error tells how many
+datagrams the network refused to take, and how many came and were dropped, by
+cause.
+
+Status: 0; 1 for a key that can't be used; 2 for a wrong command line; 3 where the
+page can't be served, the address can't be bound or the socket fails; 4 for want of
+memory, or where all turns were spent.
 ";

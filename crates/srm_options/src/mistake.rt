@@ -28,6 +28,8 @@ pub enum Mistake<'a> {
     Time(&'a str, &'a str, u64, u64),
     #[error("'--linger <U>' is for '--live' alone")]
     Linger,
+    #[error("'--no-token' with '--http {0}': whoever reaches this machine could draw; name one address of it, or leave '--no-token' out")]
+    Open(&'a str),
     #[error("'--only-roster' and '--any-origin' don't go together: leave one out")]
     Origins,
     #[error("an option is missing or out of its range")]

@@ -140,12 +140,12 @@ fn stay_option<'a>(alloc: Global, live: bool) -> Arg<'a> {
 }
 
 fn least_distance_option<'a>(alloc: Global, live: bool) -> Arg<'a> {
-    let least_distance = option(
-        alloc,
-        "least-distance",
-        "L",
+    let help = help_of(
+        live,
         "a distance counts as at least so many microseconds, 1 to 10000000; else 1, or 5000 with --live, where 5ms will do",
+        "a distance counts as at least so many microseconds, 1 to 10000000; else 5000; 5ms will do",
     );
+    let least_distance = option(alloc, "least-distance", "L", help);
     if live {
         least_distance
     } else {
@@ -153,25 +153,45 @@ fn least_distance_option<'a>(alloc: Global, live: bool) -> Arg<'a> {
     }
 }
 
+fn turns_option<'a>(alloc: Global, live: bool) -> Arg<'a> {
+    let help = help_of(
+        live,
+        "turns so often, at most, below 2^64; else 1000000, or with --live as often as it takes",
+        "turns so often, at most, below 2^64; else as often as it takes",
+    );
+    option(alloc, "turns", "T", help).value_parser(value_parser!(u64))
+}
+
+fn rate_option<'a>(alloc: Global, live: bool) -> Arg<'a> {
+    let help = help_of(
+        live,
+        "bytes a second, 1 to 100000000; else 8000, or 64000 with --live",
+        "bytes a second, 1 to 100000000; else 64000",
+    );
+    option(alloc, "rate", "R", help).value_parser(value_parser!(u32).range(
+        i64::from(LEAST_RATE)..=i64::from(GREATEST_RATE),
+    ))
+}
+
+fn linger_option<'a>(alloc: Global, live: bool) -> Arg<'a> {
+    let help = help_of(
+        live,
+        "with --live, leaves only once nobody asked for what it holds for so many microseconds, 0 to 30000000; else 2000000",
+        "leaves only once nobody asked for what it holds for so many microseconds, 0 to 30000000; else 2000000; 2s will do",
+    );
+    option(alloc, "linger", "U", help)
+}
+
+// What the help says of an option.
+fn help_of<'a>(live: bool, plain: &'a str, of_live: &'a str) -> &'a str {
+    if live { of_live } else { plain }
+}
+
 fn with_limits<'a>(
     alloc: Global,
     command: Command<'a>,
     live: bool,
 ) -> Result<Command<'a>, AllocError> {
-    let turns = option(
-        alloc,
-        "turns",
-        "T",
-        "turns so often, at most, below 2^64; else 1000000, or with --live as often as it takes",
-    )
-    .value_parser(value_parser!(u64));
-    let rate = option(
-        alloc,
-        "rate",
-        "R",
-        "bytes a second, 1 to 100000000; else 8000, or 64000 with --live",
-    )
-    .value_parser(value_parser!(u32).range(i64::from(LEAST_RATE)..=i64::from(GREATEST_RATE)));
     let depth = option(
         alloc,
         "depth",
@@ -185,20 +205,14 @@ fn with_limits<'a>(
         "c1,c2,d1,d2",
         "a request waits c1 to c1+c2 distances, a repair d1 to d1+d2; each 0 to 16; else 2,2,1,1",
     );
-    let linger = option(
-        alloc,
-        "linger",
-        "U",
-        "with --live, leaves only once nobody asked for what it holds for so many microseconds, 0 to 30000000; else 2000000",
-    );
     command
         .arg(stay_option(alloc, live))?
-        .arg(turns)?
-        .arg(rate)?
+        .arg(turns_option(alloc, live))?
+        .arg(rate_option(alloc, live))?
         .arg(depth)?
         .arg(waits)?
         .arg(least_distance_option(alloc, live))?
-        .arg(linger)?
+        .arg(linger_option(alloc, live))?
         .arg(flag(
             alloc,
             "live",
@@ -207,7 +221,7 @@ fn with_limits<'a>(
         .arg(flag(
             alloc,
             "verbose",
-            "tells why the address can't be bound, as --live does in any case",
+            "tells why the address can't be bound or which call of the socket failed, as --live does in any case",
         ))
 }
 
@@ -231,7 +245,7 @@ fn with_addresses<'a>(alloc: Global, command: Command<'a>) -> Result<Command<'a>
 }
 
 /// What the arguments say.
-fn options_in<'a, S: Resolve>(
+pub(crate) fn options_in<'a, S: Resolve>(
     alloc: Global,
     matches: &ArgMatches<'a>,
     names: &S,
@@ -415,7 +429,8 @@ fn member_in(matches: &ArgMatches<'_>, members: usize) -> Option<Member> {
     }
 }
 
-fn told<'a>(alloc: Global, command: &mut Command<'a>, mistake: Mistake<'a>) -> Reply {
+/// What is told of a mistake.
+pub(crate) fn told<'a>(alloc: Global, command: &mut Command<'a>, mistake: Mistake<'a>) -> Reply {
     if matches!(mistake, Mistake::Memory) {
         return Reply::Memory;
     }

@@ -26,7 +26,7 @@ pub struct NodeOptions {
     pub turns: u64,
     /// Whether it is live: it draws each line as it is typed, and prints each message as it is taken.
     pub live: bool,
-    /// Whether it tells why its address can't be bound. A live member tells it in any case.
+    /// Whether it tells why its address can't be bound, and which call of its socket failed. A live member tells it in any case.
     pub verbose: bool,
     /// Which datagrams the member drops.
     pub guard: GuardOptions,
@@ -35,13 +35,15 @@ pub struct NodeOptions {
 }
 
 impl NodeOptions {
-    /// Returns whether each member has an address and nobody else has, the member leaves in time and lingers no longer than it may, and its guard is in its range.
+    /// Returns whether each member has an address and nobody else has, the member leaves in time, lingers no longer than it may and only if
+    /// it is live, and its guard is in its range.
     pub fn is_in_range(&self) -> bool
         ensures { IsTrue result ↔ AreInRange self.now }
     {
         self.addresses.len() == usize::from(self.config.members())
             && self.stay <= LATEST_MOMENT
             && self.linger <= LONGEST_LINGER
+            && (self.live || self.linger == 0)
             && self.guard.is_in_range()
     }
 }

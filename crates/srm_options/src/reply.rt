@@ -1,5 +1,8 @@
 //! What a command line gets if it isn't carried out.
 
+ghost use Rattle.std.specs.Prelude.{◌≡◌};
+ghost use Rattle.srm_options.specs.declared.reply.Reply.TheVariants.{Memory};
+
 use clap::error::ErrorKind;
 use clap::{Command, Error};
 use std::alloc::AllocError;
@@ -49,6 +52,8 @@ impl From<Error> for Reply {
 }
 
 impl From<AllocError> for Reply {
+    ghost from_gives = { λ _ gives. gives ≡ Memory };
+
     fn from(_error: AllocError) -> Reply {
         Reply::Memory
     }

@@ -1,5 +1,6 @@
 //! The command lines of `srm world`, and of `srm` by itself.
 
+use crate::board::board_command;
 use crate::help::{ABOUT, WORLD, WORLD_HELP};
 use crate::node::node_command;
 use crate::picture::picture_command;
@@ -15,8 +16,8 @@ pub struct WorldOptions {
     pub extended: bool,
 }
 
-/// Reads the arguments behind `srm`, if the first is neither `node` nor `picture`. Returns options if they ask for `srm world`. Fails with [`Reply::Help`] if they
-/// ask for help or the version, [`Reply::Wrong`] with what is wrong in them, also if `node` or `picture` stands behind an option, and [`Reply::Memory`] if out of
+/// Reads the arguments behind `srm`, if the first is none of `node`, `board` and `picture`. Returns options if they ask for `srm world`. Fails with [`Reply::Help`] if
+/// they ask for help or the version, [`Reply::Wrong`] with what is wrong in them, also if one of the three stands behind an option, and [`Reply::Memory`] if out of
 /// memory.
 pub fn read_world<'a>(alloc: Global, arguments: &'a [&'a str]) -> Result<WorldOptions, Reply> {
     let mut command = srm_command(alloc)?;
@@ -26,6 +27,7 @@ pub fn read_world<'a>(alloc: Global, arguments: &'a [&'a str]) -> Result<WorldOp
             extended: matches.get_flag("extended"),
         }),
         Some(("picture", _)) => Err(told(&mut command, "'picture' has to be the first word")),
+        Some(("board", _)) => Err(told(&mut command, "'board' has to be the first word")),
         _ => Err(told(&mut command, "'node' has to be the first word")),
     }
 }
@@ -46,10 +48,11 @@ fn srm_command<'a>(alloc: Global) -> Result<Command<'a>, AllocError> {
         .subcommand_required(true)
         .subcommand(world)?
         .subcommand(picture_command(alloc)?)?
-        .subcommand(node_command(alloc, false)?)
+        .subcommand(node_command(alloc, false)?)?
+        .subcommand(board_command(alloc)?)
 }
 
-/// That `node` or `picture` comes first, for a caller who reads it here.
+/// That one of the other commands comes first, for a caller who reads it here.
 fn told(command: &mut Command<'_>, text: &str) -> Reply {
     Reply::to(command, ErrorKind::InvalidSubcommand, text)
 }
