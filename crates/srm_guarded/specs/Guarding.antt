@@ -1,5 +1,5 @@
 -- A member's wire with its guard, as the member's options say.
-use Rattle.std.specs.Prelude.{ℕ, Bool, List, Option, is_some}
+use Rattle.std.specs.Prelude.{◌≡◌, ℕ, Bool, List, Option, is_some}
 use Rattle.std.specs.declared.net.socket_addr.SocketAddr.{SocketAddr}
 use Rattle.srm_options.specs.declared.guard_options.GuardOptions.{GuardOptions}
 use Rattle.srm_wire.specs.declared.sent.Sent.{Sent}
@@ -22,6 +22,10 @@ GuardedSends old sent failed new = SendsTagged (λ below bytes lost after. Sends
 -- What a receive does, by the room and the answer.
 abbrev pub GuardedReceives : GuardView UdpView → ℕ → List (Option (List ℕ)) → GuardView UdpView → Type 0
 GuardedReceives old room answer new = ReceivesTagged (λ below space told after. ReceivesNext space told below after) room answer old new
+
+-- A pause changes nothing that contracts see.
+abbrev pub GuardedPauses : GuardView UdpView → ℕ → GuardView UdpView → Type 0
+GuardedPauses old micros new = (new ≡ record old { wire = new.wire }) × (new.wire ≡ old.wire)
 
 -- how many of its calls failed
 abbrev pub guarded_failures : GuardView UdpView → ℕ

@@ -6,7 +6,7 @@ ghost use Rattle.srm_guarded.specs.Guarding.{guarded_wire, keeping_to};
 use srm_entries::Config;
 use srm_guard::{Guard, Key, Known, Limit};
 use srm_options::GuardOptions;
-use srm_udp::{UdpWire, WireWaker};
+use srm_udp::{FirstFailure, UdpWire, WireWaker};
 use std::alloc::{AllocError, Global};
 use std::io;
 use std::net::{Net, SocketAddr};
@@ -21,6 +21,8 @@ pub struct Guarded {
     pub waker: Option<Arc<WireWaker, Global>>,
     /// Where the member says what it knows, if its guard has a limit.
     pub known: Option<Arc<Known, Global>>,
+    /// Tells which call of the wire failed first. `None` if out of memory for it.
+    pub failure: Option<Arc<FirstFailure, Global>>,
 }
 
 /// Binds a socket to the address that `addresses` has for the member of `config`, and puts a guard around its wire: with the limit and the roster that `guard` asks
@@ -46,8 +48,14 @@ pub fn bind_guarded(
     let mut wire = UdpWire::bind(rt, alloc, config.me(), addresses)?;
     keep_to(&mut wire, guard.only_roster);
     let waker = wire.waker().ok();
+    let failure = wire.first_failure().ok();
     let wire = Guard::new(wire, alloc, key, limit)?;
-    Ok(Guarded { wire, waker, known })
+    Ok(Guarded {
+        wire,
+        waker,
+        known,
+        failure,
+    })
 }
 
 #[tactic(auto, using(crate::proofs::Keeping::kept, crate::proofs::Keeping::unkept))]

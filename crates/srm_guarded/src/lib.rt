@@ -2,7 +2,7 @@
 //!
 //! ```
 //! let key = read_key(&rt, alloc, &options.guard)?; // from the file that `--key` names
-//! let Guarded { wire, waker, known } = bind_guarded(&rt, alloc, options.config, &options.guard, key, options.addresses)?;
+//! let Guarded { wire, waker, known, failure } = bind_guarded(&rt, alloc, options.config, &options.guard, key, options.addresses)?;
 //! let past = Published::new(alloc, past, known); // tells the guard's limit what the member knows
 //! ```
 //!
