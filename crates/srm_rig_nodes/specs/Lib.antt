@@ -1,0 +1,2 @@
+pub mod StepClocks
+pub mod Examples
