@@ -1,3 +1,4 @@
+pub mod MemberRuns
 pub mod PensJoined
 pub mod Together
 pub mod WholeRuns

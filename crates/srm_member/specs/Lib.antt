@@ -1,5 +1,6 @@
 pub mod Examples
 pub mod Lines
+pub mod MemberRuns
 pub mod Sinks
 pub mod WholeRuns
 pub mod Stations

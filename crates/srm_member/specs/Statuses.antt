@@ -1,5 +1,6 @@
 -- How a member ends, and with which status.
-use Rattle.std.specs.Prelude.{◌≡◌, ◌⊎◌, ℕ, Bool, true, false, Option, Some, None, Result, Ok, Err}
+use Rattle.std.specs.Prelude.{◌≡◌, ◌⊎◌, ℕ, Bool, true, false, List, Option, Some, None, Result, Ok, Err}
+use Rattle.std.specs.Io.KnownBytes.{Keeps}
 use Rattle.std.specs.declared.io.ErrorKind.{ErrorKind}
 use Rattle.std.specs.declared.io.ErrorKind.TheVariants as kind
 use Rattle.std.specs.declared.net.socket_addr.SocketAddr.{SocketAddr}
@@ -12,6 +13,7 @@ use Rattle.srm_node.specs.declared.fault.NodeFault.TheVariants.{Wire, Memory, Tu
 use Rattle.srm_node.specs.declared.working.WorkEnd.{WorkEnd}
 use Rattle.srm_node.specs.declared.working.WorkEnd.TheVariants as end
 use Rattle.srm_node.specs.declared.working.Worked.{Worked}
+use Rattle.srm_udp.specs.declared.first_failure.WireFailure.{WireFailure}
 use Rattle.srm_options.specs.declared.reply.Reply.{Reply}
 use Rattle.srm_options.specs.declared.reply.Reply.TheVariants as reply
 use Rattle.srm_guarded.specs.declared.key_file.KeyFileFault.{KeyFileFault}
@@ -62,6 +64,11 @@ abbrev pub fault_of_binding_at : Option SocketAddr → ErrorKind → MemberFault
 fault_of_binding_at (Some address) cause = fault_of_bind address cause
 fault_of_binding_at None cause = fault_of_binding cause
 
+-- the call that failed is told, where the wire failed and it is known
+abbrev pub fault_with_call : Option WireFailure → MemberFault → MemberFault
+fault_with_call (Some call) fault.Wire = fault.Call call
+fault_with_call _ f = f
+
 -- Why a key file can't be used: out of memory, or another cause.
 abbrev pub fault_of_key : KeyFileFault → MemberFault
 fault_of_key key.Memory = fault.Script OutOfMemory
@@ -72,6 +79,7 @@ abbrev pub status_of_member : MemberFault → ℕ
 status_of_member (fault.Script f) = status_of f
 status_of_member fault.Wire = WIRE_FAILED
 status_of_member (fault.Binding address cause) = WIRE_FAILED
+status_of_member (fault.Call call) = WIRE_FAILED
 status_of_member fault.Turns = RAN_OUT
 status_of_member (fault.Key cause) = FAILED
 
@@ -85,3 +93,10 @@ StatusOf (reply.Help text) status = (status ≡ 0) ⊎ (status ≡ FAILED) ⊎ (
 StatusOf (reply.Wrong text) status = status ≡ WRONG_USAGE
 StatusOf (reply.Unresolved text) status = status ≡ WIRE_FAILED
 StatusOf reply.Memory status = status ≡ RAN_OUT
+
+-- only the help or the version is printed to the output
+abbrev pub KeepsUnlessHelp : Reply → Option (List ℕ) → Option (List ℕ) → Type 0
+KeepsUnlessHelp (reply.Help text) old new = Unit {0}
+KeepsUnlessHelp (reply.Wrong text) old new = Keeps old new
+KeepsUnlessHelp (reply.Unresolved text) old new = Keeps old new
+KeepsUnlessHelp reply.Memory old new = Keeps old new

@@ -7,13 +7,14 @@ ghost use Rattle.srm_names.specs.PageFeeds as spec;
 ghost use Rattle.srm_script.specs.declared.fault.ScriptFault.TheVariants.{Memory};
 ghost use Rattle.srm_script.specs.declared.status.TheConstants.{RAN_OUT};
 ghost use Rattle.srm_member.specs.declared.fault.MemberFault.TheVariants.{Script};
-ghost use Rattle.srm_member.specs.Statuses.{fault_of, fault_of_lists, fault_of_live, fault_of_bind, fault_of_binding, fault_of_key, lacks_memory, status_of_member};
+ghost use Rattle.srm_member.specs.Statuses.{fault_of, fault_of_lists, fault_of_live, fault_of_bind, fault_of_binding, fault_of_key, fault_with_call, lacks_memory, status_of_member};
 ghost use Rattle.srm_member.specs.TakenText.{has_close};
 
 use srm_guarded::KeyFileFault;
 use srm_names::PageMsg;
 use srm_node::{NodeFault, WorkEnd, Worked};
 use srm_script::{FAILED, RAN_OUT, ScriptFault, WIRE_FAILED, print_fault};
+use srm_udp::WireFailure;
 use srm_world::Past;
 use std::alloc::AllocError;
 use std::io;
@@ -33,6 +34,9 @@ pub enum MemberFault {
     /// This address can't be bound, for this cause.
     #[error("srm: cannot bind {0}: {1}")]
     Binding(SocketAddr, ErrorKind),
+    /// This call of the socket failed, for the cause that it has.
+    #[error("srm: {0}")]
+    Call(WireFailure),
     /// All turns were spent before the run ended.
     #[error("srm: turns")]
     Turns,
@@ -93,6 +97,19 @@ impl MemberFault {
         }
     }
 
+    /// Returns the fault with the call that failed, where that is known and the wire failed; any other fault stays. Takes no memory.
+    pub fn with_call(self, call: Option<WireFailure>) -> MemberFault
+        ensures { result ≡ fault_with_call call self }
+    {
+        let Some(call) = call else {
+            return self;
+        };
+        match self {
+            MemberFault::Wire => MemberFault::Call(call),
+            _ => self,
+        }
+    }
+
     /// Prints the fault to `err`, as a line, and returns the status that the program ends with: 1, 3 or 4. An `err` that fails changes nothing.
     pub fn print<E: Write>(&self, err: &mut E) -> u8
         ensures status { result ≡ status_of_member self.now }
@@ -100,7 +117,9 @@ impl MemberFault {
     {
         match self {
             MemberFault::Script(fault) => fault.print(err),
-            MemberFault::Wire | MemberFault::Binding(..) => print_fault(self, err, WIRE_FAILED),
+            MemberFault::Wire | MemberFault::Binding(..) | MemberFault::Call(_) => {
+                print_fault(self, err, WIRE_FAILED)
+            }
             MemberFault::Turns => print_fault(self, err, RAN_OUT),
             MemberFault::Key(_) => print_fault(self, err, FAILED),
         }

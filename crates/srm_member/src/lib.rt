@@ -15,12 +15,13 @@
 //! runs a node with the caller's sinks. [`wake`] ends a pause by a [`Waking`].
 //!
 //! **Errors**, in this order: a wrong command line; a key file that can't be used; an input that fails, is too long or has a line that is; an address that can't be
-//! bound; and what ends a run. [`MemberFault`] has the text and the status of each.
+//! bound; and what ends a run. [`MemberFault`] has the text and the status of each. [`noted_call`] returns which call of a wire failed, and why, and [`told_with`] tells a run's fault with it.
 #![tactic(auto)]
 
 mod dealing;
 mod fault;
 mod joining;
+mod noting;
 mod pens;
 mod printing;
 mod replying;
@@ -31,6 +32,7 @@ mod station;
 pub use dealing::deal;
 pub use fault::MemberFault;
 pub use joining::{join_pens, settle_lanes};
+pub use noting::{Noting, noted_call, told_with};
 pub use pens::{Waking, send_stroke, share_waker, wake};
 pub use replying::print_reply;
 pub use running::{run_node, run_station};

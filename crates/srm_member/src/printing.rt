@@ -1,8 +1,8 @@
 //! What is printed at a member's end.
 
-ghost use Rattle.std.specs.Prelude.{◌≡◌, ◌≤◌, [], ◌++◌, length, take, IfOk, OnOk, OnErr, Err, string_bytes};
+ghost use Rattle.std.specs.Prelude.{◌≡◌, ◌≤◌, ◌⊎◌, [], ◌++◌, length, take, IfOk, IfErr, OnOk, OnErr, Err, string_bytes};
 ghost use Rattle.std.specs.Io.KnownBytes.{Appends, Keeps};
-ghost use Rattle.srm_script.specs.declared.fault.ScriptFault.TheVariants.{Memory};
+ghost use Rattle.srm_script.specs.declared.fault.ScriptFault.TheVariants.{Memory, Output};
 ghost use Rattle.srm_member.specs.TakenText.{gone_line, lists_of, slot_lines, taken_text, took_line};
 ghost use Rattle.srm_member.specs.Writing.{AppendsAllBut, AppendsFront};
 
@@ -29,6 +29,7 @@ pub fn print_taken<O: Write>(
     ensures printed { OnOk result (Appends (O.contents out.old) (O.contents out.new) (taken_text me (lists_of worked.now))) }
     ensures cut { OnErr result (AppendsFront (O.contents out.old) (O.contents out.new) (taken_text me (lists_of worked.now))) }
     ensures nothing { result ≡ Err Memory → Keeps (O.contents out.old) (O.contents out.new) }
+    ensures faults { IfErr result (λ fault. (fault ≡ Memory) ⊎ (fault ≡ Output)) }
 {
     // No line that a session prints asks for more.
     let Ok(mut lines) = String::with_capacity(alloc, GATHERED + 2 * LONGEST_BODY as usize) else {

@@ -1,19 +1,23 @@
 //! A member from its options to its end.
 
-ghost use Rattle.std.specs.Prelude.{◌≤◌, List, map, OnOk};
+ghost use Rattle.std.specs.Prelude.{◌≡◌, ◌≤◌, ◌⊎◌, List, map, IfErr, OnOk};
 ghost use Rattle.srm_names.specs.declared.page_msg.PageMsg.{PageMsg as AMessage};
 ghost use Rattle.srm_node.specs.Calls.{calls_of};
 ghost use Rattle.srm_udp.specs.Clocks.{NeverFalls};
-ghost use Rattle.srm_script.specs.declared.status.TheConstants.{RAN_OUT};
+ghost use Rattle.srm_script.specs.declared.fault.ScriptFault.TheVariants.{Output};
+ghost use Rattle.srm_script.specs.declared.status.TheConstants.{WIRE_FAILED, RAN_OUT};
+ghost use Rattle.srm_member.specs.declared.fault.MemberFault.TheVariants.{Script};
 ghost use Rattle.srm_member.specs.Statuses.{IsStatus};
 ghost use Rattle.srm_member.specs.Stations.{HasNewEnds};
-ghost use Rattle.std.specs.Io.KnownBytes.{Appends};
+ghost use Rattle.std.specs.Io.KnownBytes.{Appends, Keeps};
 ghost use Rattle.srm_member.specs.TakenText.{taken_text};
 ghost use Rattle.srm_member.specs.WholeRuns.{IsWholeRun};
+ghost use Rattle.srm_member.specs.MemberRuns.{PrintsWholeRun};
 
 use crate::dealing::deal;
 use crate::fault::MemberFault;
 use crate::joining::{join_pens, settle_lanes};
+use crate::noting::{Noting, noted_call};
 use crate::printing::print_taken;
 use crate::station::{Ran, Station};
 use bytes::Bytes;
@@ -34,8 +38,9 @@ use std::time;
 /// Runs a member with these options, draws the lines of the input, and prints what its page workers took.
 ///
 /// Returns the program's status: 0; 1 if the key file can't be used, the input has more than 1,000,000 bytes or a line of more than 1,024, or a stream fails; 3 if
-/// the socket or the clock fails; 4 if memory ran out, a worker's too, or all turns were spent. The options' `live` and `linger` aren't used. The fault goes to
+/// the socket or the clock fails, with the cause if `verbose` is set; 4 if memory ran out, a worker's too, or all turns were spent. The options' `live` and `linger` aren't used. The fault goes to
 /// `err`; nothing else is printed then, unless the output failed. The node keeps no journal, since nobody reads one.
+#[tactic(auto, using(crate::proofs::MemberRuns::not_0, crate::proofs::MemberRuns::kept_by_status))]
 pub fn run_node<R, I: Read, O: Write, E: Write>(
     rt: &R,
     options: NodeOptions,
@@ -47,6 +52,8 @@ where
     R: Net + Files + time::Clock + Threads + Wait + AllocGlobal + Copy + Send + Drop + 'static,
     ensures ends { IsStatus result }
     ensures greatest { result ≤ RAN_OUT }
+    ensures whole { result ≡ 0 → PrintsWholeRun options (I.remaining reader.old) (O.contents out.old) (O.contents out.new) }
+    ensures nothing { (result ≡ WIRE_FAILED) ⊎ (result ≡ RAN_OUT) → Keeps (O.contents out.old) (O.contents out.new) }
 {
     let alloc = rt.alloc();
     match run(rt, alloc, options, reader, out) {
@@ -64,22 +71,51 @@ fn run<R, I: Read, O: Write>(
 ) -> Result<(), MemberFault>
 where
     R: Net + Files + time::Clock + Threads + Wait + Copy + Send + Drop + 'static,
+    ensures whole { OnOk result (PrintsWholeRun options (I.remaining reader.old) (O.contents out.old) (O.contents out.new)) }
+    ensures nothing { IfErr result (λ fault. (fault ≡ Script Output) ⊎ Keeps (O.contents out.old) (O.contents out.new)) }
 {
     let key = read_key(rt, alloc, &options.guard)?;
     let input = read_input(alloc, reader)?;
     let dealt = deal(alloc, input.as_slice())?;
     drop(input);
     let turns = options.turns;
-    let station = Station::bind(rt, alloc, options, key)?;
-    run_station(rt, alloc, station, dealt, turns, out)
+    let (station, noting) = Station::bind_noting(rt, alloc, options, key)?;
+    run_noting(rt, alloc, station, dealt, turns, &noting, out)
+}
+
+// Runs a station as `run_station` does, and tells which call of its wire failed, if that is noted.
+#[tactic(auto, using(crate::proofs::MemberRuns::still_output))]
+fn run_noting<R, X, P, O>(
+    rt: &R,
+    alloc: Global,
+    station: Station<R, X, P>,
+    dealt: Vec<Vec<Bytes>>,
+    turns: u64,
+    noting: &Noting,
+    out: &mut O,
+) -> Result<(), MemberFault>
+where
+    R: time::Clock + Threads + Wait + Copy + Send + Drop + 'static,
+    X: Wire + Drop,
+    P: Past<Entry> + Drop,
+    O: Write,
+    requires { HasNewEnds station.node.view station.taps.items station.pens.items }
+    ensures whole { OnOk result ((took : List (List AMessage)) × (whole : IsWholeRun (calls_of NeverFalls X.receives X.sends X.pauses) turns (map (λ bodies. bodies.items) dealt.items) station.node.view took)
+        × Appends (O.contents out.old) (O.contents out.new) (taken_text whole.host.last.journal.start.config.me took)) }
+    ensures nothing { IfErr result (λ fault. (fault ≡ Script Output) ⊎ Keeps (O.contents out.old) (O.contents out.new)) }
+{
+    match run_station(rt, alloc, station, dealt, turns, out) {
+        Ok(()) => Ok(()),
+        Err(fault) => Err(fault.with_call(noted_call(noting))),
+    }
 }
 
 /// Runs a new station to its end, and prints what its page workers took. Its k-th producer draws the k-th list of bodies.
 ///
 /// `turns` is the most turns of the node. Fails as [`Station::run`] does, with what ended the run ([`MemberFault::of_whole_run`]), with
-/// [`ScriptFault::Memory`](srm_script::ScriptFault) before it prints, or with [`ScriptFault::Output`](srm_script::ScriptFault) after a prefix of the text. Nothing
-/// is printed unless the run was whole: then what is printed as taken in a page slot is all that the node's journal gave there, to its close. The strokes that the
-/// journal drew of a producer are a prefix of its bodies, in order.
+/// [`ScriptFault::Memory`](srm_script::ScriptFault) before it prints, or with [`ScriptFault::Output`](srm_script::ScriptFault) after a prefix of the text. Any
+/// other fault leaves `out` as it was, so nothing is printed unless the run was whole: then what is printed as taken in a page slot is all that the node's journal
+/// gave there, to its close. The strokes that the journal drew of a producer are a prefix of its bodies, in order.
 pub fn run_station<R, X, P, O>(
     rt: &R,
     alloc: Global,
@@ -94,8 +130,9 @@ where
     P: Past<Entry> + Drop,
     O: Write,
     requires { HasNewEnds station.node.view station.taps.items station.pens.items }
-    ensures { OnOk result ((took : List (List AMessage)) × (whole : IsWholeRun (calls_of NeverFalls X.receives X.sends X.pauses) turns (map (λ bodies. bodies.items) dealt.items) station.node.view took)
+    ensures whole { OnOk result ((took : List (List AMessage)) × (whole : IsWholeRun (calls_of NeverFalls X.receives X.sends X.pauses) turns (map (λ bodies. bodies.items) dealt.items) station.node.view took)
         × Appends (O.contents out.old) (O.contents out.new) (taken_text whole.host.last.journal.start.config.me took)) }
+    ensures nothing { IfErr result (λ fault. (fault ≡ Script Output) ⊎ Keeps (O.contents out.old) (O.contents out.new)) }
 {
     let Ran { hosted, ends, pens } = station.run_whole(rt, alloc, dealt, turns)?;
     let Hosted {

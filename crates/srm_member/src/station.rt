@@ -1,6 +1,6 @@
 //! A member's station: its node, the taps for its page workers, and its producers.
 
-ghost use Rattle.std.specs.Prelude.{◌≡◌, Bool, List, false, None, [], length, vec_len, map, IfOk, IfSome, MatchResult};
+ghost use Rattle.std.specs.Prelude.{◌≡◌, Bool, List, false, None, [], length, vec_len, map, IfOk, IfErr, IfSome, MatchResult};
 ghost use Rattle.srm_names.specs.declared.limits.TheConstants.{PAGES, PENS};
 ghost use Rattle.srm_pages.specs.Ends.{AreNewPens};
 ghost use Rattle.srm_node.specs.Nodes.{AreNewFeeds};
@@ -8,15 +8,19 @@ ghost use Rattle.std.specs.IoError.{error_kind};
 ghost use Rattle.srm_node.specs.Calls.{calls_of};
 ghost use Rattle.srm_node.specs.Hosting.{kinds_of, starts_of, Hosts, HostsWith, HostFails, HostFailsWith, SameWell, SameLines, AreEndsOfLanes};
 ghost use Rattle.srm_udp.specs.Clocks.{NeverFalls};
+ghost use Rattle.srm_udp.specs.Resting.{new_rested};
 ghost use Rattle.srm_guarded.specs.Guarding.{guarded_wire};
 ghost use Rattle.srm_member.specs.Sinks.{NeverStops};
 ghost use Rattle.srm_member.specs.declared.sink.Unseen.{Unseen};
 ghost use Rattle.srm_timers.specs.Seeds.{words_of};
 ghost use Rattle.srm_member.specs.Stations.{AreNewTaps, IsNewStation};
+ghost use Rattle.srm_script.specs.declared.fault.ScriptFault.TheVariants.{Memory};
+ghost use Rattle.srm_member.specs.declared.fault.MemberFault.TheVariants.{Script};
 ghost use Rattle.srm_member.specs.Statuses.{fault_of_binding_at};
 ghost use Rattle.srm_member.specs.Strokes.{PensDrew, pens_with};
 
 use crate::fault::MemberFault;
+use crate::noting::{Noting, note_if};
 use crate::pens::{PenThreads, Waking, share_waker};
 use crate::sink::{Unseen, sinks};
 use bytes::Bytes;
@@ -76,8 +80,30 @@ impl<R: time::Clock + Copy + Drop> Station<
     ) -> Result<Station<R, Rested<R, Guard<UdpWire>>, Published<Forgotten<Entry>>>, MemberFault>
     where
         R: Net,
-        ensures new { IfOk result (λ s. IsNewStation options.config options.stay None (guarded_wire options.addresses.items options.guard key) s.node.view s.taps.items s.pens.items) }
+        ensures new { IfOk result (λ s. IsNewStation options.config options.stay None (new_rested (guarded_wire options.addresses.items options.guard key)) s.node.view s.taps.items s.pens.items) }
         ensures words { IfOk result (λ s. s.node.words ≡ words_of options.seed) }
+    {
+        let (station, _) = Station::bind_noting(rt, alloc, options, key)?;
+        Ok(station)
+    }
+
+    /// Does what [`bind`](Station::bind) does, and returns where the wire notes its first failure too, if `verbose` is set. Fails as `bind` does.
+    pub(crate) fn bind_noting(
+        rt: &R,
+        alloc: Global,
+        options: NodeOptions,
+        key: Option<Key>,
+    ) -> Result<
+        (
+            Station<R, Rested<R, Guard<UdpWire>>, Published<Forgotten<Entry>>>,
+            Noting,
+        ),
+        MemberFault,
+    >
+    where
+        R: Net,
+        ensures new { IfOk result (λ n. IsNewStation options.config options.stay None (new_rested (guarded_wire options.addresses.items options.guard key)) n.0.node.view n.0.taps.items n.0.pens.items) }
+        ensures words { IfOk result (λ n. n.0.node.words ≡ words_of options.seed) }
     {
         let NodeOptions {
             config,
@@ -95,10 +121,20 @@ impl<R: time::Clock + Copy + Drop> Station<
             None
         };
         match bind_guarded(rt, alloc, config, &guard, key, addresses) {
-            Ok(Guarded { wire, waker, known }) => {
+            Ok(
+                Guarded {
+                    wire,
+                    waker,
+                    known,
+                    failure,
+                },
+            ) => {
                 let wire = Rested::new(*rt, wire);
                 let past = Published::new(alloc, Forgotten::new(), known);
-                Station::make(rt, alloc, config, seed, stay, wire, waker, past)
+                match Station::make(rt, alloc, config, seed, stay, wire, waker, past) {
+                    Ok(station) => Ok((station, note_if(verbose, failure))),
+                    Err(fault) => Err(fault),
+                }
             }
             Err(error) => Err(binding_fault(told, error)),
         }
@@ -157,6 +193,7 @@ impl<R: time::Clock + Copy + Drop, X: Wire + Drop, P: Past<Entry> + Drop> Statio
         ensures hosts { IfOk result (λ h. (sinks : List Unseen) × (length sinks ≡ PAGES) × MatchResult h.end (λ _. Hosts (calls_of NeverFalls X.receives X.sends X.pauses) (kinds_of L.appended L.is_refused NeverStops) self.node.view (starts_of self.taps.items sinks) turns h)
             (λ fault. (all : Bool) × HostFails (calls_of NeverFalls X.receives X.sends X.pauses) (kinds_of L.appended L.is_refused NeverStops) all self.node.view (starts_of self.taps.items sinks) turns fault h)) }
         ensures lanes { IfOk result (λ h. IfOk h.end (λ _. AreEndsOfLanes self.node.view.feeds self.taps.items → AreEndsOfLanes h.feeds.items (map (λ w. w.tap) h.worked.items))) }
+        ensures memory { IfErr result (λ fault. fault ≡ Script Memory) }
     {
         let ran = self.run_whole(rt, alloc, dealt, turns)?;
         Ok(ran.hosted)
@@ -179,6 +216,7 @@ impl<R: time::Clock + Copy + Drop, X: Wire + Drop, P: Past<Entry> + Drop> Statio
         ensures lanes { IfOk result (λ r. IfOk r.hosted.end (λ _. AreEndsOfLanes self.node.view.feeds self.taps.items → AreEndsOfLanes r.hosted.feeds.items (map (λ w. w.tap) r.hosted.worked.items))) }
         ensures well { IfOk result (λ r. IfOk r.hosted.end (λ _. SameWell self.node.view.well r.ends.well)) }
         ensures pens { IfOk result (λ r. PensDrew (pens_with self.pens.items (map (λ bodies. bodies.items) dealt.items)) r.pens.items) }
+        ensures memory { IfErr result (λ fault. fault ≡ Script Memory) }
     {
         match Crew::new(alloc, share_waker(&self.waker)) {
             Ok(crew) => self.run_with(rt, alloc, crew, dealt, turns),
@@ -206,6 +244,7 @@ impl<R: time::Clock + Copy + Drop, X: Wire + Drop, P: Past<Entry> + Drop> Statio
         ensures lanes { IfOk result (λ r. IfOk r.hosted.end (λ _. AreEndsOfLanes self.node.view.feeds self.taps.items → AreEndsOfLanes r.hosted.feeds.items (map (λ w. w.tap) r.hosted.worked.items))) }
         ensures well { IfOk result (λ r. IfOk r.hosted.end (λ _. SameWell self.node.view.well r.ends.well)) }
         ensures pens { IfOk result (λ r. PensDrew (pens_with self.pens.items (map (λ bodies. bodies.items) dealt.items)) r.pens.items) }
+        ensures memory { IfErr result (λ fault. fault ≡ Script Memory) }
     {
         let Station {
             node,

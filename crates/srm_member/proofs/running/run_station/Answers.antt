@@ -1,4 +1,4 @@
-use Rattle.std.proofs.Common.{◌≡◌, true, ap, ◌∙◌, subst, map}
+use Rattle.std.proofs.Common.{◌≡◌, true, ap, ◌∙◌, subst, map, inr}
 use Rattle.std.specs.Io.KnownBytes.{Appends}
 use Rattle.std.specs.List.{AllByRecursion, list_all}
 use Rattle.srm_pages.specs.Ends.{WellView}
@@ -10,6 +10,7 @@ use Rattle.srm_member.specs.TakenText.{taken_text, lists_of, has_close}
 use Rattle.srm_member.specs.WholeRuns.{IsReceivedOf}
 use Rattle.srm_member.proofs.WholeRuns.{without_fault, hosted_whole, pens_of_well, printed_run}
 use Rattle.srm_member.proofs.WholeTakes.{of_lists, lists_closed}
+use Rattle.srm_member.proofs.MemberRuns.{keeps_all}
 use Rattle.srm_member.proofs.running.run_station.Goals as goal
 
 pub settle_lanes-requires : goal.settle_lanes-requires
@@ -24,8 +25,11 @@ join_pens-requires g c =
     without_fault c.in_ok-hosted.field-0.hosted.end _ _ (of_lists _ _ _ c.of_whole_run.ensures c.in-None.is) c.in_ok-hosted.ensures.well in
     pens_of_well c.args.station.node.view c.args.station.taps.items c.args.station.pens.items c.in_ok-hosted.field-0.pens.items _ c.in_ok-hosted.field-0.ends.well c.requires same c.in_ok-hosted.ensures.pens
 
-pub returns-in_ok-print_taken-in-None : goal.returns-in_ok-print_taken-in-None
-returns-in_ok-print_taken-in-None g c =
+pub returns-in-Some-clause-nothing : goal.returns-in-Some-clause-nothing
+returns-in-Some-clause-nothing g c = inr (keeps_all (g.O.Write.contents c.args.out.now))
+
+pub returns-in_ok-print_taken-in-None-clause-whole : goal.returns-in_ok-print_taken-in-None-clause-whole
+returns-in_ok-print_taken-in-None-clause-whole g c =
     let (sinks, count, ran) = c.in_ok-hosted.ensures.hosts in
     let host = hosted_whole c.in_ok-hosted.field-0.hosted.end _ _ _ (of_lists _ _ _ c.of_whole_run.ensures c.in-None.is) ran in
     let parts : AllByRecursion (IsReceivedOf c.in_ok-hosted.field-0.ends.well.received) c.in_ok-hosted.field-0.pens.items = subst (λ (w : WellView). AllByRecursion (IsReceivedOf w.received) c.in_ok-hosted.field-0.pens.items) c.join_pens.ensures.same c.join_pens.ensures.parts in

@@ -1,0 +1,65 @@
+-- What a member that is run by its options comes to.
+use Rattle.std.proofs.Common.{◌≡◌, ◌⊎◌, ◌≤◌, ℕ, List, refl, ap, ◌∙◌, inl, inr, arith, lit≤}
+use Rattle.std.specs.Io.KnownBytes.{Keeps}
+use Rattle.std.specs.Prelude.{Option, Some, None, IfSome}
+use Rattle.srm_udp.specs.declared.first_failure.WireFailure.{WireFailure}
+use Rattle.srm_script.specs.declared.fault.ScriptFault.TheVariants.{StandardInput, TooLong, BadLine, Output, Memory}
+use Rattle.srm_script.specs.declared.status.TheConstants.{WIRE_FAILED, RAN_OUT}
+use Rattle.srm_member.specs.declared.fault.MemberFault.{MemberFault}
+use Rattle.srm_member.specs.declared.fault.MemberFault.TheVariants.{Script, Wire, Binding, Call, Turns, Key}
+use Rattle.srm_member.specs.Statuses.{fault_with_call, status_of_member}
+use Rattle.srm_member.specs.Lines.{lines_of, dealt_of}
+
+-- the lines that are dealt are those of the input, if that is known
+pub lines_known : (known : Option (List ℕ)) (input text : List ℕ) (dealt : List (List (List ℕ))) → IfSome known (λ t. input ≡ t) → text ≡ input → dealt ≡ dealt_of (lines_of text) → IfSome known (λ t. dealt ≡ dealt_of (lines_of t))
+lines_known None input text dealt read is split = tt
+lines_known (Some t) input text dealt read is split = split ∙ ap (λ b. dealt_of (lines_of b)) (is ∙ read)
+
+-- what isn't written to stays
+pub keeps_all : (known : Option (List ℕ)) → Keeps known known
+keeps_all None = tt
+keeps_all (Some text) = refl
+
+-- an output that failed is told as that, whichever call failed
+output_stays : (call : Option WireFailure) (f : MemberFault) → f ≡ Script Output → fault_with_call call f ≡ Script Output
+output_stays None f is = is
+output_stays (Some call) f is = ap (fault_with_call (Some call)) is
+
+pub still_output : (call : Option WireFailure) (f told : MemberFault) (K : Type 0) → told ≡ fault_with_call call f → (f ≡ Script Output) ⊎ K → (told ≡ Script Output) ⊎ K
+still_output call f told K is (inl output) = inl (is ∙ output_stays call f output)
+still_output call f told K is (inr kept) = inr kept
+
+-- no fault has status 0
+pub status_of_some : (f : MemberFault) → 1 ≤ status_of_member f
+status_of_some (Script StandardInput) = lit≤ tt
+status_of_some (Script TooLong) = lit≤ tt
+status_of_some (Script (BadLine number)) = lit≤ tt
+status_of_some (Script Output) = lit≤ tt
+status_of_some (Script Memory) = lit≤ tt
+status_of_some Wire = lit≤ tt
+status_of_some (Binding address cause) = lit≤ tt
+status_of_some (Call call) = lit≤ tt
+status_of_some Turns = lit≤ tt
+status_of_some (Key fault) = lit≤ tt
+
+-- and none a greater one than 4
+pub status_of_most : (f : MemberFault) → status_of_member f ≤ 4
+status_of_most (Script StandardInput) = lit≤ tt
+status_of_most (Script TooLong) = lit≤ tt
+status_of_most (Script (BadLine number)) = lit≤ tt
+status_of_most (Script Output) = lit≤ tt
+status_of_most (Script Memory) = lit≤ tt
+status_of_most Wire = lit≤ tt
+status_of_most (Binding address cause) = lit≤ tt
+status_of_most (Call call) = lit≤ tt
+status_of_most Turns = lit≤ tt
+status_of_most (Key fault) = lit≤ tt
+
+pub not_0 : (f : MemberFault) (status : ℕ) (P : Type 0) → status ≡ status_of_member f → status ≡ 0 → P
+not_0 f status P is none = absurd (omega (arith, status_of_some f, is, none))
+
+-- an output that failed has a status by itself
+pub kept_by_status : (f : MemberFault) (status : ℕ) (K : Type 0) → status ≡ status_of_member f → (f ≡ Script Output) ⊎ K → (status ≡ WIRE_FAILED) ⊎ (status ≡ RAN_OUT) → K
+kept_by_status f status K is (inr kept) which = kept
+kept_by_status f status K is (inl output) (inl wire) = let one : status ≡ 1 = is ∙ ap status_of_member output in let three : status ≡ 3 = wire in absurd (omega (arith, one, three))
+kept_by_status f status K is (inl output) (inr memory) = let one : status ≡ 1 = is ∙ ap status_of_member output in let four : status ≡ 4 = memory in absurd (omega (arith, one, four))

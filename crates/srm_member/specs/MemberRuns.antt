@@ -1,0 +1,36 @@
+-- What a member comes to that is run by its options.
+use Rattle.std.specs.Prelude.{◌≡◌, ℕ, List, Option, None, IfSome, is_some}
+use Rattle.std.specs.Io.KnownBytes.{Appends}
+use Rattle.srm_names.specs.declared.page_msg.PageMsg.{PageMsg}
+use Rattle.srm_pages.specs.Ends.{TapView, PenView}
+use Rattle.srm_udp.specs.Clocks.{ClockView, NeverFalls}
+use Rattle.srm_udp.specs.Resting.{RestedView, new_rested, SendsRested, ReceivesRested, PausesRested}
+use Rattle.srm_udp.specs.Udp.{UdpView}
+use Rattle.srm_guard.specs.Guards.{GuardView}
+use Rattle.srm_guarded.specs.Guarding.{guarded_wire, GuardedReceives, GuardedSends, GuardedPauses}
+use Rattle.srm_options.specs.declared.node_options.NodeOptions.{NodeOptions}
+use Rattle.srm_node.specs.Calls.{Calls, calls_of}
+use Rattle.srm_node.specs.Nodes.{NodeView}
+use Rattle.srm_member.specs.Lines.{lines_of, dealt_of}
+use Rattle.srm_member.specs.Stations.{IsNewStation}
+use Rattle.srm_member.specs.TakenText.{taken_text}
+use Rattle.srm_member.specs.WholeRuns.{IsWholeRun}
+
+-- what each call of a member's wire does, which rests above a guarded wire over UDP, and of the system's clock
+abbrev pub member_calls : Calls (RestedView (GuardView UdpView)) ClockView
+member_calls = calls_of NeverFalls (λ r room answer s. ReceivesRested (λ g space told h. GuardedReceives g space told h) r room answer s) (λ r sent failed s. SendsRested (λ g bytes lost h. GuardedSends g bytes lost h) r sent failed s) (λ r micros s. PausesRested GuardedPauses r micros s)
+
+-- A member with these options ran to its end over its own wire, with a key if they name a file of one, and its producers drew lines of its input, if that is known.
+-- What was printed is what its page workers took: all that its journal gave.
+pub record PrintsWholeRun (options : NodeOptions) (input before after : Option (List ℕ)) : Type 0 where
+  pub key : Option (List ℕ)
+  pub keyed : is_some key ≡ is_some options.guard.key
+  pub node : NodeView (RestedView (GuardView UdpView)) ClockView
+  pub taps : List TapView
+  pub pens : List PenView
+  pub new : IsNewStation options.config options.stay None (new_rested (guarded_wire options.addresses.items options.guard key)) node taps pens
+  pub dealt : List (List (List ℕ))
+  pub lines : IfSome input (λ text. dealt ≡ dealt_of (lines_of text))
+  pub took : List (List PageMsg)
+  pub whole : IsWholeRun member_calls options.turns dealt node took
+  pub printed : Appends before after (taken_text whole.host.last.journal.start.config.me took)
