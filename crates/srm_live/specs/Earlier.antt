@@ -1,10 +1,14 @@
 -- When a session message tells that a member was in the session before.
-use Rattle.std.specs.Prelude.{ℕ, Bool, false, not, ◌&&◌, ◌==◌, nat_le, List}
+use Rattle.std.specs.Prelude.{ℕ, Bool, false, not, ◌&&◌, ◌==◌, nat_le, List, [], ◌∷◌, ◌++◌, filter}
 use Rattle.std.specs.List.{list_any}
 use Rattle.srm_names.specs.FullName.{FullName}
 use Rattle.srm_names.specs.Names.{same_stream}
 use Rattle.srm_codec.specs.declared.datagram.Datagram.{Datagram}
 use Rattle.srm_codec.specs.declared.datagram.Datagram.TheVariants.{Session}
+
+-- the last names that a member drew, with this one in place of that of its stream
+abbrev pub with_last : FullName → List FullName → List FullName
+with_last name last = filter (λ (n : FullName). not (same_stream n.stream name.stream)) last ++ name ∷ []
 
 -- the name is that of the row, or a later one of its stream
 abbrev pub reaches : FullName → FullName → Bool

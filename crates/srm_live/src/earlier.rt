@@ -1,8 +1,8 @@
 //! Whether a member was in its session before, under the same number.
 
-ghost use Rattle.std.specs.Prelude.{◌≡◌, []};
+ghost use Rattle.std.specs.Prelude.{◌≡◌, [], OnOk};
 ghost use Rattle.std.specs.List.{list_any};
-ghost use Rattle.srm_live.specs.Earlier.{is_undrawn, reaches, tells_of_earlier};
+ghost use Rattle.srm_live.specs.Earlier.{is_undrawn, reaches, tells_of_earlier, with_last};
 
 use srm_codec::Datagram;
 use srm_names::{Member, Name};
@@ -34,8 +34,10 @@ impl LastDrawn {
         }
     }
 
-    /// Notes a name that was drawn, above all others of its stream. Only out of memory refuses it.
-    pub fn note(&mut self, name: Name) -> Result<(), AllocError> {
+    /// Notes a name that was drawn, above all others of its stream. Fails only if out of memory, and then no name of the stream may be noted.
+    pub fn note(&mut self, name: Name) -> Result<(), AllocError>
+        ensures { OnOk result (self.new ≡ with_last name self.old) }
+    {
         self.names.retain(|other| other.stream() != name.stream());
         self.names.push(name)?;
         Ok(())

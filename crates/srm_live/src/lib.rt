@@ -10,8 +10,8 @@
 //!
 //! **Errors**, in this order: a key file that can't be used, an address that can't be bound, and what ends a run. A line that is too long is no error. If several
 //! things befell a run, it tells one: out of memory, else what ended the node's run, else an output that failed, else an input that did.
-//! [`MemberFault`](srm_member::MemberFault) has the text and the status of each; an address that can't be bound is told with the cause: `srm: cannot bind
-//! 127.0.0.1:80: permission denied`. A member that was in the session before, under the same number, is told so once, goes on, and ends with the status
+//! [`MemberFault`](srm_member::MemberFault) has the text and the status of each; an address that can't be bound and a call of the socket that fails are told with the
+//! cause: `srm: cannot bind 127.0.0.1:80: permission denied`. A member that was in the session before, under the same number, is told so once, goes on, and ends with the status
 //! [`WAS_BEFORE`].
 #![tactic(auto)]
 
@@ -52,10 +52,14 @@ mod unfinished;
 mod watched;
 mod who;
 
+pub use counted_wire::CountedWire;
+pub use dropped::Dropped;
 pub use earlier::LastDrawn;
 pub use lingering::{Stay, Staying};
 pub use live_fault::WAS_BEFORE;
 pub use living::run_live;
+pub use lost::Lost;
 pub use need::Need;
 pub use needed::Needed;
 pub use polled_input::PolledInput;
+pub use tally::{Activity, Tally};

@@ -14,7 +14,7 @@ pub const WAS_BEFORE: u8 = 5;
 /// Why a live member isn't run, or not to its end, or not as it should be. Its text is the line that goes to standard error.
 #[derive(Debug, Drop, Error)]
 pub enum LiveFault {
-    /// As of a member that isn't live, with the cause where its address can't be bound.
+    /// As of a member that isn't live, with the cause where its address can't be bound or its socket fails.
     #[error("{0}")]
     Member(MemberFault),
     /// The run was whole, but the member was in the session before. That is told as it is heard.

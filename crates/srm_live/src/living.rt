@@ -24,7 +24,7 @@ use crate::unfinished::tell_unfinished;
 use crate::watched::Watched;
 use srm_guard::Key;
 use srm_guarded::{Guarded, Published, bind_guarded, read_key};
-use srm_member::{MemberFault, Station};
+use srm_member::{MemberFault, Noting, Station, told_with};
 use srm_options::NodeOptions;
 use srm_script::ScriptFault;
 use srm_udp::{Losses, Rested};
@@ -43,10 +43,10 @@ use std::{mem, time};
 /// A line that is too long is told to `err` and not drawn. A line that begins with a slash is a command: `/page C.P`, `/new`, `/pages`, `/who`, `/leave` or `/help`; `err`
 /// gets a line for any other. A line that begins with two slashes is a stroke with one slash less. Strokes go on the page that `/page` or `/new` turned to last, and
 /// before that on page 0.0. The pages that have strokes are shown in turn, each until a session message told of it. The options' `live` and `verbose` aren't used: the
-/// cause of a failed bind is always told. An input may return `WouldBlock` where nothing is there yet, and is asked again: after a millisecond, or at once if its read took
+/// cause of a failed bind or a failed call is always told. An input may return `WouldBlock` where nothing is there yet, and is asked again: after a millisecond, or at once if its read took
 /// as long. While a read waits, the member can't end.
 ///
-/// `err` gets who of the others is here, falls silent for ten seconds or leaves; once that the member was in the session before; why its address can't be bound; and at the end who wasn't heard
+/// `err` gets who of the others is here, falls silent for ten seconds or leaves; once that the member was in the session before; why its address can't be bound or its socket failed; and at the end who wasn't heard
 /// leaving, which streams miss drawops, what the network refused and what was dropped. If `err` is a terminal, the title of its window says each second what goes on.
 ///
 /// A failing output or input and running out of memory end the reading; the member stays and leaves all the same, since others may need what it holds. Then `err` gets one fault: out of memory, else
@@ -134,7 +134,9 @@ where
         Err(fault) => return Some(LiveFault::Member(MemberFault::from(fault))),
     };
     match bind(rt, alloc, options, key, &staying, desk) {
-        Ok(station) => run_bound(rt, alloc, station, reader, sinks, staying, turns, desk),
+        Ok((station, noting)) => run_bound(
+            rt, alloc, station, noting, reader, sinks, staying, turns, desk,
+        ),
         Err(fault) => Some(fault),
     }
 }
@@ -145,6 +147,7 @@ fn run_bound<R, I, O, E>(
     rt: &R,
     alloc: Global,
     station: Station<R, Rested<R, CountedWire>, Published<Needed<Watched>>>,
+    noting: Noting,
     reader: I,
     sinks: Vec<Printing<R, O, E>>,
     staying: Staying,
@@ -170,7 +173,7 @@ where
     );
     let told = told_by(rt, telling);
     let was_before = tell_last(rt, told, desk);
-    end(rt, run, was_before, desk)
+    end(rt, run, &noting, was_before, desk)
 }
 
 // What the thread told that tells what changes, if there was one.
@@ -231,13 +234,19 @@ fn bind<R, O, E>(
     key: Option<Key>,
     staying: &Staying,
     desk: &Desk<O, E>,
-) -> Result<Station<R, Rested<R, CountedWire>, Published<Needed<Watched>>>, LiveFault>
+) -> Result<
+    (
+        Station<R, Rested<R, CountedWire>, Published<Needed<Watched>>>,
+        Noting,
+    ),
+    LiveFault,
+>
 where
     R: Net + time::Clock + Copy + Drop,
     O: Write,
     E: Write,
-    ensures new { IfOk result (λ s. HasNewEnds s.node.view s.taps.items s.pens.items) }
-    ensures guarded { IfOk result (λ s. s.node.view.wire.wire ≡ guarded_wire options.addresses.items options.guard key) }
+    ensures new { IfOk result (λ b. HasNewEnds b.0.node.view b.0.taps.items b.0.pens.items) }
+    ensures guarded { IfOk result (λ b. b.0.node.view.wire.wire.wire ≡ guarded_wire options.addresses.items options.guard key) }
 {
     let mut options = options;
     options.stay = 0;
@@ -247,14 +256,21 @@ where
         return Err(LiveFault::Member(MemberFault::Wire));
     };
     match bind_guarded(rt, alloc, options.config, &options.guard, key, addresses) {
-        Ok(Guarded { wire, waker, known }) => {
+        Ok(
+            Guarded {
+                wire,
+                waker,
+                known,
+                failure,
+            },
+        ) => {
             let wire = CountedWire::new(wire, desk.share_tally());
             let wire = Rested::new(*rt, wire);
             let watched = Watched::new(alloc, options.config, desk.share_tally());
             let past = Needed::new(alloc, watched, Arc::try_clone(&staying.need).ok());
             let past = Published::new(alloc, past, known);
             match Station::with_past(rt, alloc, &options, wire, waker, past) {
-                Ok(station) => Ok(station),
+                Ok(station) => Ok((station, failure)),
                 Err(fault) => Err(LiveFault::Member(fault)),
             }
         }
@@ -262,15 +278,18 @@ where
     }
 }
 
-// Prints the end of a whole run. Why it was none, by why the node's run wasn't and what befell the streams, and whether the member was in the session before.
+// Prints the end of a whole run. Why it was none, by why the node's run wasn't and what befell the streams, and whether the member was in the session before. A wire that
+// failed is told with the call that failed.
 fn end<R: Wait, O: Write, E: Write>(
     rt: &R,
     run: Option<MemberFault>,
+    noting: &Noting,
     was_before: bool,
     desk: &Desk<O, E>,
 ) -> Option<LiveFault> {
     if run.is_none() {
         desk.print_gone(rt);
     }
+    let run = told_with(run, noting);
     LiveFault::of_end(MemberFault::of_live(run, desk.noted()), was_before)
 }
