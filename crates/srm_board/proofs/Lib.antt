@@ -1,0 +1,2 @@
+pub mod BoardRuns
+pub mod Showing

@@ -1,0 +1,40 @@
+-- How a board ends and what becomes of a stroke, in examples.
+use Rattle.std.specs.Prelude.{◌≡◌, true, false, [], ◌∷◌, map, refl, Some, None}
+use Rattle.std.specs.declared.io.ErrorKind.TheVariants as kind
+use Rattle.std.specs.declared.net.socket_addr.SocketAddr.{SocketAddr}
+use Rattle.srm_names.specs.Names.{first_page}
+use Rattle.srm_pages.specs.Ends.{PenView}
+use Rattle.srm_script.specs.declared.fault.ScriptFault.TheVariants.{Memory}
+use Rattle.srm_member.specs.declared.fault.MemberFault.TheVariants.{Script, Wire, Turns}
+use Rattle.srm_slate.specs.declared.easel.Drawn.TheVariants.{Taken, Full, Over}
+use Rattle.srm_board.specs.declared.board_fault.BoardFault.TheVariants.{Member, Serving}
+use Rattle.srm_board.specs.BoardStatuses.{fault_of_serve, out_of_memory, status_of_board}
+use Rattle.srm_board.specs.Inks.{InkDraws, InkView, with_stroke}
+
+statuses : map status_of_board (Member Wire ∷ Member Turns ∷ out_of_memory ∷ []) ≡ 3 ∷ 4 ∷ 4 ∷ []
+statuses = refl
+
+an_address_in_use : (address : SocketAddr) → fault_of_serve address kind.AddrInUse ≡ Serving address kind.AddrInUse
+an_address_in_use address = refl
+
+has_status_3 : (address : SocketAddr) → status_of_board (fault_of_serve address kind.AddrInUse) ≡ 3
+has_status_3 address = refl
+
+a_system_without_memory : (address : SocketAddr) → fault_of_serve address kind.OutOfMemory ≡ Member (Script Memory)
+a_system_without_memory address = refl
+
+-- a producer that is lent
+abbrev ink : PenView → InkView
+ink pen = record { pen = Some pen; is_leaving = false }
+
+it_is_taken : (pen : PenView) → InkDraws first_page (120 ∷ []) Taken (ink pen) (ink (with_stroke first_page (120 ∷ []) pen))
+it_is_taken pen = (refl, refl)
+
+it_is_too_much : (pen : PenView) → InkDraws first_page (120 ∷ []) Full (ink pen) (ink pen)
+it_is_too_much pen = (refl, refl)
+
+who_leaves_draws_no_more : (pen : PenView) → InkDraws first_page [] Over (record (ink pen) { is_leaving = true }) (record (ink pen) { is_leaving = true })
+who_leaves_draws_no_more pen = (refl, refl)
+
+nor_does_who_left : InkDraws first_page [] Over (record { pen = None; is_leaving = false }) (record { pen = None; is_leaving = false })
+nor_does_who_left = (refl, refl)

@@ -1,0 +1,5 @@
+pub mod BoardRuns
+pub mod BoardStatuses
+pub mod Examples
+pub mod Inks
+pub mod Shows

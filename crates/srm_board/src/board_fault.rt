@@ -1,0 +1,61 @@
+//! Why a member with a board isn't run, or not to its end.
+
+ghost use Rattle.std.specs.Prelude.{◌≡◌, ◌≤◌};
+ghost use Rattle.std.specs.IoError.{error_kind};
+ghost use Rattle.srm_script.specs.declared.status.TheConstants.{RAN_OUT};
+ghost use Rattle.srm_board.specs.BoardStatuses.{fault_of_serve, out_of_memory, status_of_board};
+
+use srm_member::MemberFault;
+use srm_script::{ScriptFault, WIRE_FAILED, print_fault};
+use std::alloc::AllocError;
+use std::io;
+use std::io::{ErrorKind, Write};
+use std::net::SocketAddr;
+use thiserror::Error;
+
+/// Why a member with a board isn't run, or not to its end. Its text is the line that goes to standard error.
+#[derive(Debug, Drop, Error)]
+pub enum BoardFault {
+    /// As of a member without a board: its key file can't be used, its address can't be bound, its run isn't whole, or memory ran out.
+    #[error("{0}")]
+    Member(MemberFault),
+    /// The board can't be served at this address, for this cause.
+    #[error("srm: cannot serve on {0}: {1}")]
+    Serving(SocketAddr, ErrorKind),
+}
+
+impl BoardFault {
+    /// Returns the fault of a board that is out of memory.
+    pub fn memory() -> BoardFault
+        ensures { result ≡ out_of_memory }
+    {
+        BoardFault::Member(MemberFault::Script(ScriptFault::Memory))
+    }
+
+    /// Returns the fault of a board that can't be served at an address, with its cause; out of memory is one by itself. Takes no memory.
+    pub fn of_serve(address: SocketAddr, error: io::Error) -> BoardFault
+        ensures { result ≡ fault_of_serve address (error_kind error) }
+    {
+        match error.kind() {
+            ErrorKind::OutOfMemory => BoardFault::memory(),
+            cause => BoardFault::Serving(address, cause),
+        }
+    }
+
+    /// Prints the fault to `err`, as a line, and returns the status that the program ends with: 1, 3 or 4. An `err` that fails changes nothing.
+    pub fn print<E: Write>(&self, err: &mut E) -> u8
+        ensures status { result ≡ status_of_board self.now }
+        ensures greatest { result ≤ RAN_OUT }
+    {
+        match self {
+            BoardFault::Member(fault) => fault.print(err),
+            BoardFault::Serving(..) => print_fault(self, err, WIRE_FAILED),
+        }
+    }
+}
+
+impl From<AllocError> for BoardFault {
+    fn from(_error: AllocError) -> BoardFault {
+        BoardFault::memory()
+    }
+}

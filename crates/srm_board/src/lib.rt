@@ -1,0 +1,30 @@
+//! A member on whose board one draws in a browser, as `srm board` runs it.
+//!
+//! ```
+//! let input = PolledInput::new(&rt, alloc, rt.stdin(), STDIN);
+//! let status = run_board(&rt, options, Some(input), &mut rt.stderr());
+//! ```
+//!
+//! The member's node runs in the calling thread, its eight page workers and the server of its board in threads beside it. What the workers take goes to a
+//! [`Slate`](srm_slate::Slate), which browsers are shown. What is drawn in browsers goes to one producer, which all of them share.
+//!
+//! **Errors**, in this order: a key file that can't be used, an HTTP address that can't be bound, the member's own address that can't, and what ends a run.
+//! [`BoardFault`] has the text and the status of each.
+#![tactic(auto)]
+
+mod binding;
+mod board_fault;
+mod boarding;
+mod hosting;
+mod inkwell;
+mod leaving;
+mod place;
+mod preparing;
+mod serving;
+mod slate_sink;
+mod telling;
+mod turning;
+mod watching;
+
+pub use board_fault::BoardFault;
+pub use boarding::run_board;

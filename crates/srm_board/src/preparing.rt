@@ -1,0 +1,96 @@
+//! What a board needs before its member does anything.
+
+ghost use Rattle.std.specs.Prelude.{◌≡◌, vec_len, IfOk};
+ghost use Rattle.srm_names.specs.declared.limits.TheConstants.{PAGES};
+
+use crate::place::Place;
+use crate::serving::Endpoint;
+use crate::slate_sink::{SlateSink, slate_sinks};
+use crate::turning::Turning;
+use srm_agent::Config;
+use srm_live::{Need, Tally};
+use srm_slate::{Face, Slate};
+use std::alloc::{AllocError, Global};
+use std::io;
+use std::net::{Net, TcpListener, TcpStream};
+use std::random::RandomSource;
+use std::sync::{Arc, Wait};
+
+/// What a board needs before its member does anything.
+#[derive(Drop)]
+pub struct Prepared<R: Wait + Drop> {
+    /// Where it is served.
+    pub endpoint: Endpoint,
+    /// What its threads share.
+    pub shared: Shared,
+    /// One for each page worker.
+    pub sinks: Vec<SlateSink<R>>,
+}
+
+/// What the threads of a board share.
+#[derive(Drop)]
+pub struct Shared {
+    /// What its browsers are shown.
+    pub slate: Arc<Slate, Global>,
+    /// Which page its member shows.
+    pub turning: Arc<Turning, Global>,
+    /// What others need of the member.
+    pub need: Arc<Need, Global>,
+    /// What its wire lost and dropped.
+    pub tally: Arc<Tally, Global>,
+}
+
+/// Binds the board's address, and makes what its threads share. Fails with the system's error if it refuses to bind, or has no randomness for a token, and with
+/// `OutOfMemory`.
+pub fn prepare<R>(rt: &R, alloc: Global, place: Place, config: Config) -> io::Result<Prepared<R>>
+where
+    R: Net<Listener = TcpListener, Stream = TcpStream> + RandomSource + Wait + Copy + Drop,
+    ensures { IfOk result (λ p. vec_len p.sinks ≡ PAGES) }
+{
+    let listener = TcpListener::bind(rt, place.http)?;
+    // A thread that waits for connections looks whether the run has ended.
+    listener.set_nonblocking(true)?;
+    // Where port 0 was asked for, the system chose one.
+    let http = listener.local_addr()?;
+    let (face, address) = face_of(rt, alloc, Place { http, ..place }, config)?;
+    let endpoint = Endpoint {
+        listener,
+        face,
+        address,
+    };
+    let shared = share(alloc)?;
+    let sinks = slate_sinks(rt, alloc, &shared.slate)?;
+    Ok(Prepared {
+        endpoint,
+        shared,
+        sinks,
+    })
+}
+
+fn share(alloc: Global) -> Result<Shared, AllocError> {
+    Ok(Shared {
+        slate: Arc::new(alloc, Slate::new(alloc))?,
+        turning: Arc::new(alloc, Turning::new(alloc)?)?,
+        need: Arc::new(alloc, Need::new())?,
+        tally: Arc::new(alloc, Tally::new(alloc)?)?,
+    })
+}
+
+// What the server shows of its member and to whom, and where its page is.
+fn face_of<R: RandomSource>(
+    rt: &R,
+    alloc: Global,
+    place: Place,
+    config: Config,
+) -> io::Result<(Face, String)> {
+    let root = place.new_root(rt, alloc)?;
+    let http = place.http;
+    let address = format!(in alloc; "http://{http}{root}")?;
+    let face = Face {
+        me: config.me().number(),
+        members: config.members(),
+        session: config.session(),
+        guard: place.guard(alloc, root)?,
+    };
+    Ok((face, address))
+}
