@@ -1,16 +1,18 @@
-//! The program: a world of scripts, pictures of it, and a member over UDP.
+//! The program: a world of scripts, pictures of it, and a member over UDP, with a board or without.
 #![tactic(auto)]
 
 mod standard_streams;
 
 use crate::standard_streams::{STDIN, fill_standard_streams};
+use srm_board::run_board;
 use srm_live::{PolledInput, run_live};
 use srm_member::{print_reply, run_node};
-use srm_options::{read_node_on, read_picture, read_world};
+use srm_options::{WorldOptions, read_board, read_node_on, read_picture, read_world};
 use srm_played::run_picture;
 use srm_script::{Dialect, ScriptFault, WRONG_USAGE, run_script_in};
 use std::alloc::{AllocError, Global};
-use std::io::{ErrorKind, Write, writer};
+use std::io::{ErrorKind, IsTerminal, Read, Write, writer};
+use std::net::Net;
 use std::process::ExitCode;
 use std::rt::Env;
 use std::{env, io};
@@ -35,23 +37,44 @@ fn main(rt: HostRuntime) -> ExitCode {
             Ok(options) => run_node(&rt, options, &mut rt.stdin(), &mut writer(&rt), &mut err),
             Err(reply) => print_reply(&reply, &mut writer(&rt), &mut err),
         },
+        ["board", arguments @ ..] => match read_board(&rt, alloc, arguments) {
+            Ok(options) => run_board(&rt, options, terminal_of(&rt, alloc, rt.stdin()), &mut err),
+            Err(reply) => print_reply(&reply, &mut writer(&rt), &mut err),
+        },
         ["picture", arguments @ ..] => match read_picture(alloc, arguments) {
             Ok(()) => run_picture(alloc, &mut rt.stdin(), &mut writer(&rt), &mut err),
             Err(reply) => print_reply(&reply, &mut writer(&rt), &mut err),
         },
         arguments => match read_world(alloc, arguments) {
             Ok(options) => {
-                let dialect = if options.extended {
-                    Dialect::Extended
-                } else {
-                    Dialect::Plain
-                };
+                let dialect = dialect_of(&options);
                 run_script_in(alloc, dialect, &mut rt.stdin(), &mut writer(&rt), &mut err)
             }
             Err(reply) => print_reply(&reply, &mut writer(&rt), &mut err),
         },
     };
     ExitCode::from(status)
+}
+
+/// The terminal that is typed at. Where the input is none, the page alone says when a board's member leaves.
+fn terminal_of<I: Read + IsTerminal + Drop>(
+    net: &impl Net,
+    alloc: Global,
+    stdin: I,
+) -> Option<PolledInput<I>> {
+    if stdin.is_terminal() {
+        Some(PolledInput::new(net, alloc, stdin, STDIN))
+    } else {
+        None
+    }
+}
+
+fn dialect_of(options: &WorldOptions) -> Dialect {
+    if options.extended {
+        Dialect::Extended
+    } else {
+        Dialect::Plain
+    }
 }
 
 /// The arguments behind the program's name.
