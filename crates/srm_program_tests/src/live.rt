@@ -207,5 +207,9 @@ fn a_live_member_whose_socket_fails(rt: HostRuntime) -> Result<(), Fail> {
         "--me 1 --stay 0",
         "srm: cannot bind 192.0.2.1:9: address not available\n",
     )?;
-    assert_lacks_wire(&rt, "--me 0 --stay 5000000", "srm: wire\n")
+    assert_lacks_wire(
+        &rt,
+        "--me 0 --stay 5000000",
+        "srm: cannot send to 192.0.2.1:9: invalid input parameter\n",
+    )
 }
