@@ -1,6 +1,6 @@
 """A relay between the members of a session that loses, doubles and delays datagrams, on loopback, in a thread.
 
-Member i is told, as the address of each other member j, a port of the relay of its own: so the relay knows of each datagram who sent it, and to whom.
+The relay has a port for each pair of members. Member i sends to the port of (i, j) instead of member j's own, so the relay knows the sender and the receiver of each datagram.
 """
 import heapq
 import random
