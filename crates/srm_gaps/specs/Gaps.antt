@@ -1,5 +1,5 @@
 -- Whether what is told of members is told of all members of one session, and whole.
-use Rattle.std.specs.Prelude.{◌≡◌, ◌≢◌, ℕ, ◌≤◌, false, List, [], ◌∷◌, length, map}
+use Rattle.std.specs.Prelude.{◌≡◌, ◌≢◌, ℕ, ◌≤◌, ◌<◌, false, List, [], ◌∷◌, length, map}
 use Rattle.std.specs.List.{AllByRecursion}
 use Rattle.srm_world.specs.Traces.{Journal}
 use Rattle.srm_gaps.specs.declared.told.Told.{Told}
@@ -11,9 +11,9 @@ journals_of ts = map (λ (t : Told). t.journal) ts
 abbrev pub IsComplete : ℕ → Told → Type 0
 IsComplete records t = (t.is_cut ≡ false) × (t.journal.start.config.members ≤ records)
 
--- no record is missing or cut
+-- there are records, and none is missing or cut
 abbrev pub AreComplete : List Told → Type 0
-AreComplete ts = AllByRecursion (IsComplete (length ts)) ts
+AreComplete ts = (0 < length ts) × AllByRecursion (IsComplete (length ts)) ts
 
 -- another member of the same roster in the same session
 pub record IsAnother (a b : Told) : Type 0 where

@@ -1,4 +1,5 @@
 pub mod Possible
 pub mod Gaps
 pub mod Orders
+pub mod Retelling
 pub mod Examples

@@ -59,10 +59,13 @@ pub fn may_miss(told: &[Told], member: Member) -> bool
     }
 }
 
-/// Returns whether no record is missing or cut.
+/// Returns whether there are records, and none is missing or cut.
 pub fn are_complete(told: &[Told]) -> bool
     ensures { IsTrue result ↔ AreComplete told.now }
 {
+    if told.is_empty() {
+        return false;
+    }
     for one in told {
         if !is_complete(told.len(), one) {
             return false;

@@ -8,5 +8,6 @@ mod Levels
 mod Abreast
 mod Twins
 pub mod Replaying
+pub mod Unseen
 mod ReplayExample
 pub mod Handed

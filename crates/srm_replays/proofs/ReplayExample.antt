@@ -1,5 +1,6 @@
 -- A run of two calls that act, and its replay with noise between, so that the premises of the law can be met.
 use Rattle.std.proofs.Common.{◌≡◌, List, [], ◌∷◌, refl, lit<, lit≤}
+use Rattle.std.specs.List.{AllByRecursion}
 use Rattle.srm_codec.specs.declared.fault.DecodeFault.TheVariants as decoding
 use Rattle.srm_timers.specs.ListedWords.{next_listed}
 use Rattle.srm_entries.specs.declared.entry.Entry.{Entry}
@@ -12,9 +13,10 @@ use Rattle.srm_entries.specs.Sample.{first_stream, gap, one_of_four}
 use Rattle.srm_entries.proofs.AskedExample.{run}
 use Rattle.srm_entries.proofs.Plain.{idle_right, one_goes}
 use Rattle.srm_agent.proofs.Quiet.{no_arms}
-use Rattle.srm_replays.specs.Law.{acting, IsRunByWords}
+use Rattle.srm_replays.specs.Law.{acting, IsRunByWords, RestsUnseen}
 use Rattle.srm_replays.specs.Examples.{asks, noise}
 use Rattle.srm_replays.proofs.Replaying.{replay_law, agreement_law}
+use Rattle.srm_replays.proofs.Unseen.{unseen_law}
 
 abbrev done : List Entry
 done = gap ∷ asks ∷ []
@@ -76,3 +78,6 @@ does_the_same = replay_law next_listed one_of_four 1000000 [] done replayed (lit
 
 pub decided : acting done ≡ acting replayed
 decided = agreement_law next_listed one_of_four 1000000 [] replayed done (lit< tt) replayed_by_words by_words refl
+
+pub noise_is_unseen : AllByRecursion RestsUnseen replayed
+noise_is_unseen = unseen_law one_of_four 1000000 replayed replayed_run

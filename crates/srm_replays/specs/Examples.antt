@@ -11,7 +11,7 @@ use Rattle.srm_entries.specs.declared.cause.Cause.TheVariants as causes
 use Rattle.srm_entries.specs.declared.state.AgentState.TheVariants.{Active}
 use Rattle.srm_entries.specs.Giving.{GiveRight}
 use Rattle.srm_entries.specs.Sample.{in_roster, first_stream, first_drawop, quiet, entry, draws, ticks, gives, ask_arm, gap}
-use Rattle.srm_replays.specs.Law.{IsReplayOf, acting, but_noise}
+use Rattle.srm_replays.specs.Law.{IsReplayOf, acting, but_noise, IsUnseen}
 
 -- member 1 hears the second drawop, misses the first, and asks for it when its timer has expired
 abbrev pub asks : Entry
@@ -42,6 +42,10 @@ both_calls_act = refl
 -- an idle tick is no noise: no replay of `done` has one
 idle_ticks_count : but_noise done ≡ done
 idle_ticks_count = refl
+
+-- nobody can tell of the idle tick
+unseen : IsUnseen too_early
+unseen = record { heard = refl; sent = refl; given = λ slot. refl }
 
 -- Where a member isn't in its roster, the law doesn't hold: after its own drawop and the opening of the page, the next Give may bring the drawop, and it may bring nothing.
 abbrev opened : List Entry

@@ -1,9 +1,12 @@
 -- A replay does what was done.
-use Rattle.std.specs.Prelude.{◌≡◌, ℕ, ◌<◌, Bool, true, false, not, List, map, filter}
+use Rattle.std.specs.Prelude.{◌≡◌, ℕ, ◌<◌, Bool, true, false, not, List, [], map, filter, None}
+use Rattle.std.specs.List.{AllByRecursion}
 use Rattle.srm_entries.specs.declared.entry.Entry.{Entry}
 use Rattle.srm_entries.specs.declared.entry.Input.{Input}
 use Rattle.srm_entries.specs.declared.entry.Input.TheVariants.{Noise}
 use Rattle.srm_entries.specs.Configs.{Config}
+use Rattle.srm_entries.specs.Entries.{accepted}
+use Rattle.srm_entries.specs.Giving.{given_in}
 use Rattle.srm_entries.specs.Runs.{IsMemberRun}
 use Rattle.srm_world.specs.WaitWords.{AreByWords}
 use Rattle.srm_replays.specs.Calls.{acts}
@@ -44,3 +47,17 @@ ReplayLaw W = (next_word : W → ℕ × W) (c : Config) (made : ℕ) (from : W) 
 abbrev pub AgreementLaw : Type 0 → Type 0
 AgreementLaw W = (next_word : W → ℕ × W) (c : Config) (made : ℕ) (from : W) (es fs : List Entry) → c.me < c.members
     → IsRunByWords next_word c made from es → IsRunByWords next_word c made from fs → map call_of (acting fs) ≡ map call_of (acting es) → acting fs ≡ acting es
+
+-- Nobody can tell that the call was made: it heard nothing, sent nothing, and gave the page workers nothing.
+pub record IsUnseen (e : Entry) : Type 0 where
+  pub heard : accepted e ≡ None
+  pub sent : e.effects.outs ≡ []
+  pub given : (slot : ℕ) → given_in slot e.input e.effects.message ≡ None
+
+-- if the call doesn't act, it is unseen
+abbrev pub RestsUnseen : Entry → Type 0
+RestsUnseen e = acts e ≡ false → IsUnseen e
+
+-- In every run of a member the calls that don't act are unseen.
+abbrev pub UnseenLaw : Type 0
+UnseenLaw = (c : Config) (made : ℕ) (es : List Entry) → IsMemberRun c made es → AllByRecursion RestsUnseen es

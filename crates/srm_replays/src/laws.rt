@@ -1,6 +1,6 @@
 //! What holds of every run of a member, and every replay of it.
 
-ghost use Rattle.srm_replays.specs.Law.{AgreementLaw, ReplayLaw};
+ghost use Rattle.srm_replays.specs.Law.{AgreementLaw, ReplayLaw, UnseenLaw};
 
 use srm_timers::Words;
 
@@ -15,4 +15,10 @@ pub fn replays<W: Words>()
 /// act in both, each at its moment, they do the same, whatever else came to the member: idle ticks, noise, and calls that were refused, ignored or brought nothing.
 pub fn calls_decide<W: Words>()
     ensures { AgreementLaw W }
+{}
+
+/// States that a call that doesn't act is unseen, and does nothing. In every run of a member such a call heard nothing, sent nothing and gave the page workers nothing. So neither
+/// another member nor a page worker can tell whether it was made: an idle tick, noise, or a call that was refused, ignored or brought nothing.
+pub fn idle_calls_are_unseen()
+    ensures { UnseenLaw }
 {}
