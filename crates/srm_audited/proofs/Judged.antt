@@ -10,7 +10,7 @@ use Rattle.srm_world.specs.WaitWords.{AreByWords}
 use Rattle.srm_frames.specs.declared.reading.Record.{Record}
 use Rattle.srm_frames.specs.Lines.{lines_text}
 use Rattle.srm_record.specs.declared.replaying.Replayed.{Replayed}
-use Rattle.srm_record.specs.Replays.{start_of, lines_told}
+use Rattle.srm_record.specs.Replays.{start_of, lines_told, TellsOfRuns}
 use Rattle.srm_record.specs.Takes.{taken_in}
 use Rattle.srm_audit.specs.declared.got.Got.{Got}
 use Rattle.srm_audit.specs.declared.mismatch.Mismatch.{Mismatch}
@@ -32,10 +32,11 @@ pub is_replay : {E : Type 0} (r : Record) (v : Result (Option Replayed) E)
     → IfOk v (λ found. IfSome found (λ p. IsLawfulJournal p.journal))
     → IfOk v (λ found. IfSome found (λ p. (to : Lcg) × AreByWords pcg64 p.journal.start.config (words_of r.beginning.seed) p.journal.entries to))
     → IfOk v (λ found. IfSome found (λ p. lines_text r.lines.items ≡ lines_text (lines_told r.beginning p.journal.entries (taken_in p.taken.items) r.end)))
+    → IfOk v (λ found. IfSome found (λ p. TellsOfRuns r p.journal (taken_in p.taken.items)))
     → IfOk v (λ found. IfSome found (λ p. IsReplayOf r (replay_of r.end p)))
-is_replay r (Ok (Some p)) start lawful words told = record { start = start; lawful = lawful; words = words; told = told; cut = refl }
-is_replay r (Ok None) start lawful words told = tt
-is_replay r (Err e) start lawful words told = tt
+is_replay r (Ok (Some p)) start lawful words told runs = record { start = start; lawful = lawful; words = words; told = told; runs = runs; cut = refl }
+is_replay r (Ok None) start lawful words told runs = tt
+is_replay r (Err e) start lawful words told runs = tt
 
 pub honest_ok : {E : Type 0} (ts : List Told) (js : List Journal) (gots : List Got) (r : Result Trace E) → js ≡ journals_of ts → IfOk r (AreAccountedBy js gots) → IfOk r IsRun → IfOk r (λ t. IsHonest t.entries) → IfOk r (λ t. TakesAreDrawn t.entries)
     → IfOk r (λ t. AgreesAtRest t.entries) → IfOk r (AreHonest ts gots)

@@ -1,2 +1,6 @@
 mod SoFar
 mod Judged
+mod Writing
+mod Found
+mod Refusing
+mod WritersExample

@@ -1,2 +1,3 @@
 pub mod Sessions
 pub mod Verdicts
+pub mod Writers

@@ -13,11 +13,16 @@
 //! Contracts pin each verdict. An honest one has the run, which is lawful and honest. One that isn't honest names a record that no run of its member has, a list that isn't what its
 //! member gave, or an entry that hears what nobody can have sent, whatever stands behind the cuts of records and in those that are missing. `Undecided` comes only where a record is
 //! missing or cut, and the records as they are aren't one honest run. Then all calls have a possible order: each hears what was sent, or what such a member may have sent.
+//!
+//! Two laws say what verdicts tell of the runs whose members wrote the records. Where they aren't honest, there is no such honest run ([`refusals_hold`]). Where all members of an honest
+//! run wrote them, whole or cut behind the last datagram that the member sent, they are ([`honest_runs_are_found`]).
 #![tactic(auto)]
 
 mod auditing;
 mod gathering;
+mod laws;
 mod verdict;
 
 pub use auditing::audit;
+pub use laws::{honest_runs_are_found, refusals_hold};
 pub use verdict::{Reason, Verdict};

@@ -30,7 +30,7 @@ use Rattle.srm_record.specs.Calls.{lines_of, moment_of_acting, last_recorded}
 use Rattle.srm_record.specs.Takes.{slot_lines, listed_lines, takes_at, end_at, list_in, lists_in}
 use Rattle.srm_record.specs.Records.{lines_so_far, last_of_record, lines_with_takes, whole_lines}
 use Rattle.srm_record.specs.Making.{Makes, MakesAll}
-use Rattle.srm_record.specs.Replays.{start_of, lines_told, IsRecordOf, IsSpelled, IsOfNoRun}
+use Rattle.srm_record.specs.Replays.{start_of, lines_told, IsRecordOf, IsSpelled, IsOfNoRun, TellsOfRuns}
 use Rattle.srm_record.proofs.Remade.{lines_by_acting, from_start}
 use Rattle.srm_record.proofs.Taken.{lists_told}
 
@@ -128,10 +128,9 @@ run_of : (b : Beginning) (j : Journal) → j.start ≡ start_of b → IsLawfulJo
 run_of b j start lawful (to, words) =
     subst (λ (s : Start). IsRunByWords pcg64 s.config s.made (words_of b.seed) j.entries) start (record { run = lawful.run; to = to; words = words })
 
-pub untold : (r : Record) (k : Journal) (lists : List (List PageMsg)) → k.start ≡ start_of r.beginning → IsLawfulJournal k → ((to : Lcg) × AreByWords pcg64 k.start.config (words_of r.beginning.seed) k.entries to)
-    → lists ≡ lists_in r.lines.items → MakesAll r.lines.items (record { start = start_of r.beginning; entries = [] }) k
-    → (lines_text r.lines.items ≡ lines_text (lines_told r.beginning k.entries lists r.end) → ⊥) → IsOfNoRun r
-untold r k lists start lawful words all makes another spelled j took of =
+pub tells_of_runs : (r : Record) (k : Journal) (lists : List (List PageMsg)) → k.start ≡ start_of r.beginning → IsLawfulJournal k → ((to : Lcg) × AreByWords pcg64 k.start.config (words_of r.beginning.seed) k.entries to)
+    → lists ≡ lists_in r.lines.items → MakesAll r.lines.items (record { start = start_of r.beginning; entries = [] }) k → TellsOfRuns r k lists
+tells_of_runs r k lists start lawful words all makes spelled j took of =
     let b = r.beginning in
     let last = last_recorded b.made j.entries in
     let tail : List Line = takes_at last took ++ end_of last r.end in
@@ -143,8 +142,14 @@ untold r k lists start lawful words all makes another spelled j took of =
     let same : acting k.entries ≡ acting j.entries =
     from_start pcg64 (words_of b.seed) b.config.session j.entries (record { start = start_of b; entries = [] }) k refl refl spelled.beginning.session spelled.beginning.config.in_roster
     (run_of b j of.start of.lawful of.words) (run_of b k start lawful words) fit made in
-    let lists_are : lists ≡ took = all ∙ ap lists_in parts ∙ lists_told b.config.session last j.entries took (end_of last r.end) of.slots (none_taken last r.end) in
-    another (ap lines_text (of.lines ∙ sym (told_again b j.entries k.entries took lists r.end same lists_are)))
+    (same, all ∙ ap lists_in parts ∙ lists_told b.config.session last j.entries took (end_of last r.end) of.slots (none_taken last r.end))
+
+pub untold : (r : Record) (k : Journal) (lists : List (List PageMsg)) → k.start ≡ start_of r.beginning → IsLawfulJournal k → ((to : Lcg) × AreByWords pcg64 k.start.config (words_of r.beginning.seed) k.entries to)
+    → lists ≡ lists_in r.lines.items → MakesAll r.lines.items (record { start = start_of r.beginning; entries = [] }) k
+    → (lines_text r.lines.items ≡ lines_text (lines_told r.beginning k.entries lists r.end) → ⊥) → IsOfNoRun r
+untold r k lists start lawful words all makes another spelled j took of =
+    let same = tells_of_runs r k lists start lawful words all makes spelled j took of in
+    another (ap lines_text (of.lines ∙ sym (told_again r.beginning j.entries k.entries took lists r.end same.0 same.1)))
 
 -- a member can't have been made then
 pub made_too_late : (r : Record) → LATEST_MOMENT < r.beginning.made → IsOfNoRun r

@@ -11,6 +11,7 @@ use Rattle.srm_world.specs.declared.start.Start.{Start}
 use Rattle.srm_world.specs.Traces.{Journal}
 use Rattle.srm_world.specs.Claims.{IsLawfulJournal}
 use Rattle.srm_world.specs.WaitWords.{RecorderView, AreByWords, RecordsByWords}
+use Rattle.srm_replays.specs.Law.{acting}
 use Rattle.srm_frames.specs.declared.beginning.Beginning.{Beginning}
 use Rattle.srm_frames.specs.declared.line.Line.{Line}
 use Rattle.srm_frames.specs.declared.reading.Record.{Record}
@@ -49,3 +50,7 @@ pub record IsSpelled (r : Record) : Type 0 where
 -- no run has this record, whatever it may have done
 abbrev pub IsOfNoRun : Record → Type 0
 IsOfNoRun r = IsSpelled r → (j : Journal) (lists : List (List PageMsg)) → IsRecordOf r j lists → ⊥
+
+-- Of every run that has this record: the same calls acted in it as in the journal, with the same entries, and its page workers took these lists.
+abbrev pub TellsOfRuns : Record → Journal → List (List PageMsg) → Type 0
+TellsOfRuns r k lists = IsSpelled r → (j : Journal) (took : List (List PageMsg)) → IsRecordOf r j took → (acting k.entries ≡ acting j.entries) × (lists ≡ took)

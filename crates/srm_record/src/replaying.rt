@@ -13,7 +13,7 @@ ghost use Rattle.srm_world.specs.WaitWords.{AreByWords, RecordsByWords};
 ghost use Rattle.srm_frames.specs.Lines.{lines_text};
 ghost use Rattle.srm_record.specs.Calls.{lines_of};
 ghost use Rattle.srm_record.specs.Making.{GainsGiven, Makes, MakesAll, Waits};
-ghost use Rattle.srm_record.specs.Replays.{GoesOn, IsOfNoRun, start_of, lines_told};
+ghost use Rattle.srm_record.specs.Replays.{GoesOn, IsOfNoRun, TellsOfRuns, start_of, lines_told};
 ghost use Rattle.srm_record.specs.Takes.{taken_in, takes_at, end_at, took_in, list_in, lists_in};
 
 use crate::taking::{end_at, takes_at};
@@ -35,14 +35,15 @@ pub struct Replayed {
 /// Makes the calls of a record anew, in a recorder with the same settings and random numbers. Returns what came out, if the record's lines are exactly
 /// those that a member writes who did this. Returns `None` if they aren't: then no run of a member that began so, with these random numbers, has this record.
 ///
-/// So the journal is a lawful run of its member, whatever the calls were, and the record is the record of that run. Fails only if out of memory. Costs what the member's calls
-/// cost, and a step for each byte of the lines.
-#[tactic(auto, using(crate::proofs::Untold::untold, crate::proofs::Untold::made_too_late))]
+/// So the journal is a lawful run of its member, whatever the calls were, and the record is the record of that run. Every run that has this record did the same: the same calls
+/// acted, with the same entries, and its page workers took the same. Fails only if out of memory. Costs what the member's calls cost, and a step for each byte of the lines.
+#[tactic(auto, using(crate::proofs::Untold::untold, crate::proofs::Untold::tells_of_runs, crate::proofs::Untold::made_too_late))]
 pub fn retell(alloc: Global, read: &Record) -> Result<Option<Replayed>, AllocError>
     ensures start { IfOk result (λ found. IfSome found (λ r. r.journal.start ≡ start_of read.now.beginning)) }
     ensures lawful { IfOk result (λ found. IfSome found (λ r. IsLawfulJournal r.journal)) }
     ensures words { IfOk result (λ found. IfSome found (λ r. (to : Lcg) × AreByWords pcg64 r.journal.start.config (words_of read.now.beginning.seed) r.journal.entries to)) }
     ensures told { IfOk result (λ found. IfSome found (λ r. lines_text read.now.lines.items ≡ lines_text (lines_told read.now.beginning r.journal.entries (taken_in r.taken.items) read.now.end))) }
+    ensures runs { IfOk result (λ found. IfSome found (λ r. TellsOfRuns read.now r.journal (taken_in r.taken.items))) }
     ensures slots { IfOk result (λ found. IfSome found (λ r. vec_len r.taken ≡ PAGES)) }
     ensures none { IfOk result (λ found. MatchOption found (IsOfNoRun read.now) (λ _. Unit {0})) }
 {
