@@ -1,10 +1,11 @@
 -- What contracts see of the system's clock.
-use Rattle.std.specs.Prelude.{◌≡◌, ℕ, ◌≤◌}
+use Rattle.std.specs.Prelude.{◌≡◌, ℕ, ◌≤◌, Option, Some, MatchOption}
 
--- the moment that it told last, 0 before it told any
+-- the moment that it told last, if it told any
 pub record ClockView : Type 0 where
-  pub last : ℕ
+  pub last : Option ℕ
 
--- a reading is no earlier than the one before it
-abbrev pub NeverFalls : ClockView → ℕ → ClockView → Type 0
-NeverFalls old told new = (old.last ≤ told) × (new ≡ record { last = told })
+-- The first reading is 0, and each is no earlier than the one before it.
+pub record NeverFalls (old : ClockView) (told : ℕ) (new : ClockView) : Type 0 where
+  pub not_before : MatchOption old.last (told ≡ 0) (λ last. last ≤ told)
+  pub is : new ≡ record { last = Some told }

@@ -22,11 +22,15 @@ the_first_loss : one_more_loss Denied (new_wire []) ≡ record { inbox = new_inb
 the_first_loss = refl
 
 -- a clock that told 5 may tell 5 again, and not 4
-tells_5_again : NeverFalls (record { last = 5 }) 5 (record { last = 5 })
-tells_5_again = (omega arith, refl)
+tells_5_again : NeverFalls (record { last = Some 5 }) 5 (record { last = Some 5 })
+tells_5_again = record { not_before = omega arith; is = refl }
 
-not_4_behind_5 : NeverFalls (record { last = 5 }) 4 (record { last = 4 }) → ⊥
-not_4_behind_5 h = omega (arith, h.0)
+not_4_behind_5 : NeverFalls (record { last = Some 5 }) 4 (record { last = Some 4 }) → ⊥
+not_4_behind_5 h = omega (arith, h.not_before)
+
+-- a new clock tells 0 first
+not_1_at_first : NeverFalls (record { last = None }) 1 (record { last = Some 1 }) → ⊥
+not_1_at_first h = let k : 1 ≡ 0 = h.not_before in omega (arith, k)
 
 -- five bytes as one datagram of two, one of none, and one of three
 three_that_wait : cut (2 ∷ 0 ∷ 3 ∷ []) (1 ∷ 2 ∷ 3 ∷ 4 ∷ 5 ∷ []) ≡ (1 ∷ 2 ∷ []) ∷ [] ∷ (3 ∷ 4 ∷ 5 ∷ []) ∷ []

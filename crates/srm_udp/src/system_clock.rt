@@ -1,18 +1,18 @@
 //! The system's monotonic clock.
 
-ghost use Rattle.std.specs.Prelude.{◌≡◌, IfOk};
+ghost use Rattle.std.specs.Prelude.{◌≡◌, ◌≤◌, None, IfOk, MatchOption};
 
 use srm_wire::Clock;
 use std::marker::Model;
 use std::time::Instant;
 use std::{io, time};
 
-/// The microseconds since this clock was made, by the system's monotonic clock. They never fall.
+/// The microseconds since this clock was first read, by the system's monotonic clock. So the first reading is 0. They never fall.
 #[derive(Drop)]
 pub struct SystemClock<R: time::Clock + Drop> {
     rt: R,
     start: Instant,
-    last: u64,
+    last: Option<u64>,
 }
 
 impl<R: time::Clock + Drop> Model for SystemClock<R> {
@@ -24,12 +24,47 @@ impl<R: time::Clock + Drop> Model for SystemClock<R> {
 }
 
 impl<R: time::Clock + Drop> SystemClock<R> {
-    /// Starts a clock at 0. Fails with the system's error if it can't read its own.
+    /// Makes a clock that starts at 0 when it is first read. Fails with the system's error if it can't read its own.
     pub fn new(rt: R) -> io::Result<SystemClock<R>>
-        ensures { IfOk result (λ clock. clock ≡ record { last = 0 }) }
+        ensures { IfOk result (λ clock. clock ≡ record { last = None }) }
     {
         let start = Instant::now(&rt)?;
-        Ok(SystemClock { rt, start, last: 0 })
+        Ok(SystemClock {
+            rt,
+            start,
+            last: None,
+        })
+    }
+
+    // The microseconds since the clock started, or 0 if the system can't read its clock.
+    fn elapsed(&self) -> u64 {
+        match self.start.elapsed(&self.rt) {
+            Ok(time) => u64::try_from(time.as_micros()).unwrap_or(u64::MAX),
+            Err(_) => 0,
+        }
+    }
+
+    // Starts the clock anew. If the system can't read its clock, it started when it was made.
+    fn start(&mut self)
+        ensures { self.new ≡ self.old }
+    {
+        if let Ok(start) = Instant::now(&self.rt) {
+            self.start = start;
+        }
+    }
+
+    // The next moment that the clock tells.
+    fn next(&mut self) -> u64
+        ensures tells { MatchOption self.old.last (result ≡ 0) (λ last. last ≤ result) }
+        ensures same { self.new ≡ self.old }
+    {
+        match self.last {
+            Some(last) => self.elapsed().max(last),
+            None => {
+                self.start();
+                0
+            }
+        }
     }
 }
 
@@ -38,13 +73,10 @@ impl<R: time::Clock + Drop> Clock for SystemClock<R> {
 
     ghost reads = { NeverFalls };
 
-    /// Returns the microseconds since the clock was started, or the last moment again if the system can't read its clock.
+    /// Returns 0 at first, and then the microseconds since, or the last moment again if the system can't read its clock.
     fn now(&mut self) -> u64 {
-        let told = match self.start.elapsed(&self.rt) {
-            Ok(time) => u64::try_from(time.as_micros()).unwrap_or(u64::MAX),
-            Err(_) => 0,
-        };
-        self.last = told.max(self.last);
-        self.last
+        let told = self.next();
+        self.last = Some(told);
+        told
     }
 }
