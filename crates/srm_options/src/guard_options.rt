@@ -5,6 +5,7 @@ ghost use Rattle.srm_options.specs.Options.{IsInGuardRange};
 
 use crate::mistake::Mistake;
 use crate::node::{flag, option};
+use crate::path_option::path_in;
 use clap::{ArgMatches, Command, value_parser};
 use srm_names::{DRAWOPS, MEMBERS, PAGES};
 use std::alloc::{AllocError, Global};
@@ -76,16 +77,9 @@ pub fn guard_in<'a>(
     if only_roster && any_origin {
         return Err(Mistake::Origins);
     }
-    let key = match matches.get_str("key") {
-        Some(path) => match String::from_str(alloc, path) {
-            Ok(path) => Some(path),
-            Err(_) => return Err(Mistake::Memory),
-        },
-        None => None,
-    };
     Ok(GuardOptions {
         only_roster: only_roster || (live && !any_origin),
-        key,
+        key: path_in(alloc, matches, "key")?,
         most_missing: matches.get_one::<u32>("most-missing"),
     })
 }

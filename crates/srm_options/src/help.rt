@@ -22,6 +22,39 @@ Status: 0; 1 for a bad line, a script of more than 1000000 bytes or 2000 events,
 or a stream that fails; 2 for a wrong command line; 4 for want of memory.
 ";
 
+/// What `srm audit` does.
+pub const AUDIT: &str = "Judges the records of a session's members, and prints an honest session";
+
+/// What `srm audit --help` prints.
+pub const AUDIT_HELP: &str = "usage: srm audit FILE..
+       srm audit --script FILE.. > SESSION.script
+       srm audit --picture FILE.. > SESSION.svg
+
+Reads the records of the members of a session, one a file, in any order. Makes all
+calls anew, and tells whether what the members heard was sent, and what their page
+workers took was given. No member is trusted. It prints one of these lines, and one
+for each record with its member, its calls, and whether it is cut:
+
+  honest: session S, N members, C calls
+  not honest: WHY
+  undecided: session S, R of N records, C of them cut
+
+Not honest: no honest run has these records, whatever stands behind their cuts and
+in records that are missing; a call counts from 0 in its record. Undecided: a record
+is missing or cut, and its member may have sent what others heard.
+
+An honest session is printed in place of these lines: with --script as a script for
+`srm world --extended`, with --picture as a picture as `srm picture` draws them. What
+comes next is, of what can, the first by the members' times of day. It is refused if
+a script can't say it: with other --waits than 2,2,1,1, with rates, depths or least
+distances that differ, with a stroke that isn't printable ASCII, or if it would have
+more than 1000000 bytes, or in a picture 2000 events.
+
+Status: 0; 1 for a file that can't be read or is no record, for a session that can't
+be printed as asked, or where the output fails; 2 for a wrong command line; 4 for
+want of memory; 6 if they are no honest run; 7 if that is undecided.
+";
+
 /// What `srm node` does.
 pub const NODE: &str =
     "A member over UDP: draws the lines of standard input, and prints what its page workers took";
@@ -53,10 +86,10 @@ heard, how many drawops are missing, how many datagrams came and were sent, how 
 of those sent were requests and repairs, and how many the network refused.
 
 Status: 0; 1 for a line that is too long or an input of more than 1000000 bytes,
-but not with --live, for a stream that fails, or for a key that can't be used; 2
-for a wrong command line; 3 where the socket fails; 4 for want of memory, or where
-all turns were spent; 5 with --live, where all went well but the member was in the
-session before.";
+but not with --live, for a stream that fails, for a key that can't be used, or for a
+record that can't be made or written whole; 2 for a wrong command line; 3 where the
+socket fails; 4 for want of memory, or where all turns were spent; 5 with --live,
+where all went well but the member was in the session before.";
 
 /// What `srm world --help` prints.
 pub const WORLD_HELP: &str = "usage: srm world < SCRIPT

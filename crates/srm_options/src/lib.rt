@@ -1,7 +1,8 @@
 //! The command lines of `srm`.
 //!
-//! [`read_node`] and [`read_node_on`] return [`NodeOptions`], with the [`GuardOptions`] of the node; [`read_board`] returns [`BoardOptions`]; [`read_world`] returns
-//! [`WorldOptions`]; [`read_picture`] returns nothing, since `srm picture` has no options.
+//! [`read_node`] and [`read_node_on`] return [`NodeOptions`], with the [`GuardOptions`] of the node; [`read_board`] returns [`BoardOptions`]; [`read_audit`] returns
+//! [`AuditOptions`], with how an honest session is printed ([`AuditOutput`]); [`read_world`] returns [`WorldOptions`]; [`read_picture`] returns nothing, since
+//! `srm picture` has no options.
 //!
 //! ```
 //! match read_node(alloc, arguments) { // the arguments behind `srm node`
@@ -10,11 +11,12 @@
 //! }
 //! ```
 //!
-//! **Errors.** Arguments that aren't a command line of `srm world`, `srm picture`, `srm node` or `srm board` get a [`Reply`]: the help or the version if they ask for
-//! it, what is wrong in them, which host isn't found, or that memory ran out.
+//! **Errors.** Arguments that aren't a command line of `srm world`, `srm picture`, `srm node`, `srm board` or `srm audit` get a [`Reply`]: the help or the version if
+//! they ask for it, what is wrong in them, which host isn't found, or that memory ran out.
 #![tactic(auto)]
 
 mod apart;
+mod audit;
 mod board;
 mod guard_options;
 mod help;
@@ -22,11 +24,13 @@ mod live_defaults;
 mod mistake;
 mod node;
 mod node_options;
+mod path_option;
 mod picture;
 mod reply;
 mod resolving;
 mod world;
 
+pub use audit::{AuditOptions, AuditOutput, read_audit};
 pub use board::{BoardOptions, read_board};
 pub use guard_options::{GuardOptions, MOST_MISSING};
 pub use node::{read_node, read_node_on};

@@ -9,6 +9,7 @@ use crate::help::{NODE, NODE_MORE};
 use crate::live_defaults::{LIVE_LINGER, live_settings};
 use crate::mistake::Mistake;
 use crate::node_options::{LONGEST_LINGER, NodeOptions};
+use crate::path_option::path_in;
 use crate::reply::Reply;
 use crate::resolving::{NoNames, Resolve, System, resolved};
 use clap::error::ErrorKind;
@@ -77,6 +78,17 @@ fn is_live(arguments: &[&str]) -> bool {
 
 /// Makes the command, for its own arguments and for the help on all commands. A live member's takes times in seconds too.
 pub(crate) fn node_command<'a>(alloc: Global, live: bool) -> Result<Command<'a>, AllocError> {
+    let record = option(
+        alloc,
+        "record",
+        "FILE",
+        "writes what the member is handed and what its page workers took to this file, which must not exist; srm audit judges it",
+    );
+    member_command(alloc, live)?.arg(record)
+}
+
+/// Makes the command of a member that writes no record.
+pub(crate) fn member_command<'a>(alloc: Global, live: bool) -> Result<Command<'a>, AllocError> {
     let command = Command::new(alloc, "node")
         .bin_name("srm node")?
         .no_binary_name(true)
@@ -275,6 +287,7 @@ pub(crate) fn options_in<'a, S: Resolve>(
         live,
         verbose: matches.get_flag("verbose"),
         guard: guard_in(alloc, matches, live)?,
+        record: path_in(alloc, matches, "record")?,
         addresses,
     })
 }

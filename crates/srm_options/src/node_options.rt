@@ -30,6 +30,8 @@ pub struct NodeOptions {
     pub verbose: bool,
     /// Which datagrams the member drops.
     pub guard: GuardOptions,
+    /// The path of the file that the member's record is written to, if it is to be. There must be no such file.
+    pub record: Option<String>,
     /// The members' addresses by number, one for each of 1 to 32: all IPv4, or of a live member all IPv6.
     pub addresses: Vec<SocketAddr>,
 }

@@ -1,5 +1,6 @@
 //! The command lines of `srm world`, and of `srm` by itself.
 
+use crate::audit::audit_command;
 use crate::board::board_command;
 use crate::help::{ABOUT, WORLD, WORLD_HELP};
 use crate::node::node_command;
@@ -16,9 +17,9 @@ pub struct WorldOptions {
     pub extended: bool,
 }
 
-/// Reads the arguments behind `srm`, if the first is none of `node`, `board` and `picture`. Returns options if they ask for `srm world`. Fails with [`Reply::Help`] if
-/// they ask for help or the version, [`Reply::Wrong`] with what is wrong in them, also if one of the three stands behind an option, and [`Reply::Memory`] if out of
-/// memory.
+/// Reads the arguments behind `srm`, if the first is none of `node`, `board`, `picture` and `audit`. Returns options if they ask for `srm world`. Fails with
+/// [`Reply::Help`] if they ask for help or the version, [`Reply::Wrong`] with what is wrong in them, also if one of the four stands behind an option, and
+/// [`Reply::Memory`] if out of memory.
 pub fn read_world<'a>(alloc: Global, arguments: &'a [&'a str]) -> Result<WorldOptions, Reply> {
     let mut command = srm_command(alloc)?;
     let matches = command.try_get_matches_from_mut(arguments)?;
@@ -28,6 +29,7 @@ pub fn read_world<'a>(alloc: Global, arguments: &'a [&'a str]) -> Result<WorldOp
         }),
         Some(("picture", _)) => Err(told(&mut command, "'picture' has to be the first word")),
         Some(("board", _)) => Err(told(&mut command, "'board' has to be the first word")),
+        Some(("audit", _)) => Err(told(&mut command, "'audit' has to be the first word")),
         _ => Err(told(&mut command, "'node' has to be the first word")),
     }
 }
@@ -49,7 +51,8 @@ fn srm_command<'a>(alloc: Global) -> Result<Command<'a>, AllocError> {
         .subcommand(world)?
         .subcommand(picture_command(alloc)?)?
         .subcommand(node_command(alloc, false)?)?
-        .subcommand(board_command(alloc)?)
+        .subcommand(board_command(alloc)?)?
+        .subcommand(audit_command(alloc)?)
 }
 
 /// That one of the other commands comes first, for a caller who reads it here.
