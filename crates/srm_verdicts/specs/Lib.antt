@@ -1,0 +1,2 @@
+pub mod AuditStatuses
+pub mod Examples

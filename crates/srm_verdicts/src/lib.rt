@@ -1,0 +1,36 @@
+//! `srm audit`: reads the records of a session, judges them, and prints the verdict.
+//!
+//! ```
+//! let status = match read_audit(alloc, arguments) { // of srm_options: the arguments behind `srm audit`
+//!     Ok(options) => run_audit(&rt, &options, &mut stdout, &mut stderr),
+//!     Err(reply) => print_reply(&reply, &mut stdout, &mut stderr),
+//! };
+//! ```
+//!
+//! `srm_audited` judges; this crate has its words and statuses. [`print_verdict`] prints a verdict alone. [`script_of`] writes an honest run as a script, in the order
+//! of [`wall_order`], and [`draw_script`] draws it.
+//!
+//! **Errors.** [`AuditFault`] has the text and the status of each. A [`NoScript`] says why an honest run is no script.
+#![tactic(auto)]
+
+mod drawing;
+mod fault;
+mod no_script;
+mod ordering;
+mod printing;
+mod reading;
+mod running;
+mod scripting;
+mod sendings;
+mod status;
+mod waiting;
+
+pub use drawing::draw_script;
+pub use fault::AuditFault;
+pub use no_script::{LONGEST_SCRIPT, NoScript};
+pub use ordering::{Placed, wall_order};
+pub use printing::print_verdict;
+pub use reading::read_records;
+pub use running::run_audit;
+pub use scripting::script_of;
+pub use status::{NOT_HONEST, UNDECIDED};
