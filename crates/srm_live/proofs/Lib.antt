@@ -2,3 +2,4 @@ pub mod Askings
 pub mod TypedLines
 pub mod LiveRuns
 pub mod PageNames
+pub mod Recorded

@@ -9,7 +9,7 @@ ghost use Rattle.srm_node.specs.Calls.{calls_of};
 ghost use Rattle.srm_node.specs.Hosting.{AreEndsOfLanes};
 ghost use Rattle.srm_udp.specs.Clocks.{NeverFalls};
 ghost use Rattle.srm_member.specs.Stations.{HasNewEnds};
-ghost use Rattle.srm_member.specs.Statuses.{fault_of, fault_of_lists, lacks_memory};
+ghost use Rattle.srm_member.specs.Statuses.{fault_of, fault_of_lists, lacks_memory, IsRecordedEnd};
 ghost use Rattle.srm_member.specs.TakenText.{has_close};
 ghost use Rattle.srm_member.specs.WholeRuns.{TakePrefixes, IsReceivedOf, SawEach};
 ghost use Rattle.srm_live.specs.declared.typing_thread.TypedPens.{TypedPens as ThePens};
@@ -21,14 +21,16 @@ use crate::shown_pages::ShownPages;
 use crate::typing_thread::{TypedPens, join_typing, start_typing};
 use srm_agent::Entry;
 use srm_control::{PageCommands, PageControl, settle_control};
-use srm_member::{MemberFault, Station, host_if, join_pens, settle_lanes};
+use srm_member::{MemberFault, Station, end_record, host_if, join_pens, settle_lanes};
 use srm_names::PageMsg;
 use srm_node::{Hosted, NodeEnds, PageSink, Worked};
 use srm_pages::Feed;
+use srm_record::Written;
 use srm_script::ScriptFault;
 use srm_wire::Wire;
 use srm_world::Past;
 use std::alloc::Global;
+use std::fs::OpenFile;
 use std::io::{Read, Write};
 use std::sync::{Arc, Wait};
 use std::thread::Threads;
@@ -36,13 +38,14 @@ use std::time;
 
 /// Runs the node in this thread, and its page workers and the producer that draws what is typed in one thread each, until all have ended.
 ///
-/// `turns` is how many turns the node has, `pages` has the node's control. Returns why the run wasn't whole; `None` if it was. Then each worker took all that the node's
+/// `turns` is how many turns the node has, `pages` has the node's control. Returns why the run wasn't whole, or [`MemberFault::Record`] if it was and the file hasn't
+/// its whole record; `None` if it was and there is no file or it has. Then each worker took all that the node's
 /// journal gave in its slot, and its sink saw each of these messages; and the journal's draws are the strokes that are typed in the reader's bytes, in order, or a prefix
 /// of them, each on the page where who types stood by the node's answers to their commands.
-pub fn host_live<R, X, P, S, I, O, E>(
+pub fn host_live<R, X, F, P, S, I, O, E>(
     rt: &R,
     alloc: Global,
-    station: Station<R, X, P>,
+    station: Station<R, X, Written<F, P>>,
     pages: ShownPages,
     sinks: Vec<S>,
     reader: I,
@@ -53,6 +56,7 @@ pub fn host_live<R, X, P, S, I, O, E>(
 where
     R: time::Clock + Threads + Wait + Copy + Send + Drop + 'static,
     X: Wire + Drop,
+    F: Write + OpenFile + Drop,
     P: Past<Entry> + Drop,
     S: PageSink + Send + Drop + 'static,
     I: Read + Send + Drop + 'static,
@@ -74,14 +78,16 @@ where
     desk.end();
     let typed = join_typing(rt, typing);
     match hosted {
-        Some((hosted, ends)) => settle(hosted, ends, typed),
+        Some((hosted, ends)) => settle(alloc, hosted, ends, typed),
         None => Some(MemberFault::Script(ScriptFault::Memory)),
     }
 }
 
-// Why the run wasn't whole. If it was, both ends of each lane were put together, and the producers beside their stroke queue.
-fn settle<P: Past<Entry> + Drop>(
-    hosted: Hosted<P, Vec<PageMsg>>,
+// Why the run wasn't whole, or that its record isn't. If both are, both ends of each lane were put together, and the producers beside their stroke queue.
+#[tactic(auto, using(crate::proofs::Recorded::none_of))]
+fn settle<F: Write + OpenFile + Drop, P: Past<Entry> + Drop>(
+    alloc: Global,
+    hosted: Hosted<Written<F, P>, Vec<PageMsg>>,
     ends: NodeEnds,
     typed: Option<TypedPens>,
 ) -> Option<MemberFault>
@@ -93,35 +99,38 @@ fn settle<P: Past<Entry> + Drop>(
     ensures pens { result ≡ None → ((t : ThePens) × (typed ≡ Some t) × IsReceivedOf ends.well.received t.first × AllByRecursion (IsReceivedOf ends.well.received) t.others.items × AreFirstOf ends.commands t.control) }
 {
     match typed {
-        Some(typed) => settle_typed(hosted, ends, typed),
+        Some(typed) => settle_typed(alloc, hosted, ends, typed),
         None => Some(MemberFault::Script(ScriptFault::Memory)),
     }
 }
 
-fn settle_typed<P: Past<Entry> + Drop>(
-    hosted: Hosted<P, Vec<PageMsg>>,
+#[tactic(auto, using(crate::proofs::Recorded::of_fault, crate::proofs::Recorded::of_whole))]
+fn settle_typed<F: Write + OpenFile + Drop, P: Past<Entry> + Drop>(
+    alloc: Global,
+    hosted: Hosted<Written<F, P>, Vec<PageMsg>>,
     ends: NodeEnds,
     typed: TypedPens,
 ) -> Option<MemberFault>
     requires lanes { IfOk hosted.end (λ _. AreEndsOfLanes hosted.feeds.items (map (λ w. w.tap) hosted.worked.items)) }
     requires pens { IfOk hosted.end (λ _. (typed.first.well ≡ ends.well.well) × AllByRecursion (λ p. p.well ≡ ends.well.well) typed.others.items) }
     requires lines { IfOk hosted.end (λ _. AreOnLines ends.commands typed.control) }
-    ensures fault { result ≡ fault_of_lists (fault_of hosted.end (list_any lacks_memory hosted.worked.items)) (list_all has_close hosted.worked.items) }
+    ensures fault { IsRecordedEnd (fault_of_lists (fault_of hosted.end (list_any lacks_memory hosted.worked.items)) (list_all has_close hosted.worked.items)) result }
     ensures takes { result ≡ None → TakePrefixes hosted.feeds.items (map (λ w. w.tap) hosted.worked.items) }
     ensures pens { result ≡ None → (IsReceivedOf ends.well.received typed.first × AllByRecursion (IsReceivedOf ends.well.received) typed.others.items) }
     ensures answers { result ≡ None → AreFirstOf ends.commands typed.control }
 {
     let Hosted {
+        journal,
         feeds,
         worked,
         end,
-        ..
     } = hosted;
+    let recorded = end_record(alloc, journal, worked.as_slice());
     match MemberFault::of_whole_run(end, worked.as_slice()) {
         Some(fault) => Some(fault),
         None => {
             put_together(feeds, worked, ends, typed);
-            None
+            MemberFault::of_record(recorded)
         }
     }
 }

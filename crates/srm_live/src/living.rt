@@ -24,11 +24,13 @@ use crate::unfinished::tell_unfinished;
 use crate::watched::Watched;
 use srm_guard::Key;
 use srm_guarded::{Guarded, Published, bind_guarded, read_key};
-use srm_member::{MemberFault, Noting, Station, told_with};
+use srm_member::{MemberFault, Noting, Station, beginning_of, open_record, told_with};
 use srm_options::NodeOptions;
+use srm_record::Written;
 use srm_script::ScriptFault;
 use srm_udp::{Losses, Rested};
 use std::alloc::{AllocError, Global};
+use std::fs::OpenFile;
 use std::io::{IsTerminal, Read, Write};
 use std::net::Net;
 use std::rt::Files;
@@ -50,9 +52,9 @@ use std::{mem, time};
 /// leaving, which streams miss drawops, what the network refused and what was dropped. If `err` is a terminal, the title of its window says each second what goes on.
 ///
 /// A failing output or input and running out of memory end the reading; the member stays and leaves all the same, since others may need what it holds. Then `err` gets one fault: out of memory, else
-/// what ended the node's run, else the output, else the input.
+/// what ended the node's run, else that the file hasn't the whole record, else the output, else the input.
 ///
-/// Returns the program's status: 0; 1 if the key file can't be used or a stream fails; 3 if the socket or the clock fails; 4 if memory ran out, a worker's too, or
+/// Returns the program's status: 0; 1 if the key file can't be used, a stream fails, or the record can't be made or written whole; 3 if the socket or the clock fails; 4 if memory ran out, a worker's too, or
 /// all turns were spent; [`WAS_BEFORE`](crate::WAS_BEFORE), 5, if all went well but the member was in the session before. Neither a line that is too long nor a long
 /// input is a fault. All threads that it started have ended then.
 pub fn run_live<R, I, O, E>(rt: &R, options: NodeOptions, reader: I, out: O, err: E) -> u8
@@ -133,7 +135,11 @@ where
         Ok(key) => key,
         Err(fault) => return Some(LiveFault::Member(MemberFault::from(fault))),
     };
-    match bind(rt, alloc, options, key, &staying, desk) {
+    let record = match open_record(rt, &options) {
+        Ok(record) => record,
+        Err(fault) => return Some(LiveFault::Member(fault)),
+    };
+    match bind(rt, alloc, options, key, record, &staying, desk) {
         Ok((station, noting)) => run_bound(
             rt, alloc, station, noting, reader, sinks, staying, turns, desk,
         ),
@@ -143,10 +149,10 @@ where
 
 // Runs a member that is bound, whose node is asked for pages. Why it wasn't run to its end, if it wasn't.
 #[tactic(auto, using(crate::proofs::LiveRuns::control_is))]
-fn run_bound<R, I, O, E>(
+fn run_bound<R, F, I, O, E>(
     rt: &R,
     alloc: Global,
-    station: Station<R, Rested<R, CountedWire>, Published<Needed<Watched>>>,
+    station: Station<R, Rested<R, CountedWire>, Written<F, Published<Needed<Watched>>>>,
     noting: Noting,
     reader: I,
     sinks: Vec<Printing<R, O, E>>,
@@ -156,6 +162,7 @@ fn run_bound<R, I, O, E>(
 ) -> Option<LiveFault>
 where
     R: time::Clock + Threads + Wait + Copy + Send + Drop + 'static,
+    F: Write + OpenFile + Drop,
     I: Read + Send + Drop + 'static,
     O: Write + Send + Drop + 'static,
     E: Write + Send + Drop + 'static,
@@ -227,27 +234,30 @@ fn staying_of(alloc: Global, options: &NodeOptions) -> Result<Staying, AllocErro
 }
 
 // A live member's station, which keeps no entry, so that it may run for days. It leaves as soon as its producers are done: when it has stayed.
-fn bind<R, O, E>(
+fn bind<R, F, O, E>(
     rt: &R,
     alloc: Global,
     options: NodeOptions,
     key: Option<Key>,
+    record: Option<F>,
     staying: &Staying,
     desk: &Desk<O, E>,
 ) -> Result<
     (
-        Station<R, Rested<R, CountedWire>, Published<Needed<Watched>>>,
+        Station<R, Rested<R, CountedWire>, Written<F, Published<Needed<Watched>>>>,
         Noting,
     ),
     LiveFault,
 >
 where
     R: Net + time::Clock + Copy + Drop,
+    F: Write + Drop,
     O: Write,
     E: Write,
     ensures new { IfOk result (λ b. HasNewEnds b.0.node.view b.0.taps.items b.0.pens.items) }
     ensures guarded { IfOk result (λ b. b.0.node.view.wire.wire.wire ≡ guarded_wire options.addresses.items options.guard key) }
 {
+    let beginning = beginning_of(rt, &options);
     let mut options = options;
     options.stay = 0;
     let addresses = mem::replace(&mut options.addresses, Vec::new(alloc));
@@ -269,6 +279,7 @@ where
             let watched = Watched::new(alloc, options.config, desk.share_tally());
             let past = Needed::new(alloc, watched, Arc::try_clone(&staying.need).ok());
             let past = Published::new(alloc, past, known);
+            let past = Written::new(alloc, record, beginning, past);
             match Station::with_past(rt, alloc, &options, wire, waker, past) {
                 Ok(station) => Ok((station, failure)),
                 Err(fault) => Err(LiveFault::Member(fault)),

@@ -1,14 +1,15 @@
 -- What a member that is run by its options comes to.
 use Rattle.std.proofs.Common.{◌≡◌, ◌⊎◌, ◌≤◌, ℕ, List, refl, ap, ◌∙◌, inl, inr, arith, lit≤}
 use Rattle.std.specs.Io.KnownBytes.{Keeps}
-use Rattle.std.specs.Prelude.{Option, Some, None, IfSome}
+use Rattle.std.specs.Prelude.{Option, Some, None, Result, Ok, Err, IfSome, IfErr}
 use Rattle.srm_udp.specs.declared.first_failure.WireFailure.{WireFailure}
 use Rattle.srm_script.specs.declared.fault.ScriptFault.TheVariants.{StandardInput, TooLong, BadLine, Output, Memory}
 use Rattle.srm_script.specs.declared.status.TheConstants.{WIRE_FAILED, RAN_OUT}
 use Rattle.srm_member.specs.declared.fault.MemberFault.{MemberFault}
-use Rattle.srm_member.specs.declared.fault.MemberFault.TheVariants.{Script, Wire, Binding, Call, Turns, Key}
+use Rattle.srm_member.specs.declared.fault.MemberFault.TheVariants.{Script, Wire, Binding, Call, Turns, Key, Record}
 use Rattle.srm_member.specs.Statuses.{fault_with_call, status_of_member}
 use Rattle.srm_member.specs.Lines.{lines_of, dealt_of}
+use Rattle.srm_member.specs.MemberRuns.{FaultKeeps}
 
 -- the lines that are dealt are those of the input, if that is known
 pub lines_known : (known : Option (List ℕ)) (input text : List ℕ) (dealt : List (List (List ℕ))) → IfSome known (λ t. input ≡ t) → text ≡ input → dealt ≡ dealt_of (lines_of text) → IfSome known (λ t. dealt ≡ dealt_of (lines_of t))
@@ -25,9 +26,30 @@ output_stays : (call : Option WireFailure) (f : MemberFault) → f ≡ Script Ou
 output_stays None f is = is
 output_stays (Some call) f is = ap (fault_with_call (Some call)) is
 
-pub still_output : (call : Option WireFailure) (f told : MemberFault) (K : Type 0) → told ≡ fault_with_call call f → (f ≡ Script Output) ⊎ K → (told ≡ Script Output) ⊎ K
-still_output call f told K is (inl output) = inl (is ∙ output_stays call f output)
-still_output call f told K is (inr kept) = inr kept
+-- and so is a record that isn't whole
+record_stays : (call : Option WireFailure) (f : MemberFault) → f ≡ Record → fault_with_call call f ≡ Record
+record_stays None f is = is
+record_stays (Some call) f is = ap (fault_with_call (Some call)) is
+
+pub still_output : (call : Option WireFailure) (f told : MemberFault) (Printed : Type 0) (before after : Option (List ℕ)) → told ≡ fault_with_call call f → FaultKeeps f Printed before after → FaultKeeps told Printed before after
+still_output call f told Printed before after is (inl output) = inl (is ∙ output_stays call f output)
+still_output call f told Printed before after is (inr (inl (unwritten, printed))) = inr (inl (is ∙ record_stays call f unwritten, printed))
+still_output call f told Printed before after is (inr (inr kept)) = inr (inr kept)
+
+-- no fault changes what isn't written to
+pub unwritten_if : {T : Type 0} (r : Result T MemberFault) (Printed : Type 0) (known : Option (List ℕ)) → IfErr r (λ f. FaultKeeps f Printed known known)
+unwritten_if (Ok done) Printed known = tt
+unwritten_if (Err f) Printed known = inr (inr (keeps_all known))
+
+-- of what was printed whole, more may be known
+pub prints_more : (f : MemberFault) (Printed More : Type 0) (before after : Option (List ℕ)) → (Printed → More) → FaultKeeps f Printed before after → FaultKeeps f More before after
+prints_more f Printed More before after more (inl output) = inl output
+prints_more f Printed More before after more (inr (inl (unwritten, printed))) = inr (inl (unwritten, more printed))
+prints_more f Printed More before after more (inr (inr kept)) = inr (inr kept)
+
+pub prints_more_if : {T : Type 0} (r : Result T MemberFault) (Printed More : Type 0) (before after : Option (List ℕ)) → (Printed → More) → IfErr r (λ f. FaultKeeps f Printed before after) → IfErr r (λ f. FaultKeeps f More before after)
+prints_more_if (Ok done) Printed More before after more keeps = keeps
+prints_more_if (Err f) Printed More before after more keeps = prints_more f Printed More before after more keeps
 
 -- no fault has status 0
 pub status_of_some : (f : MemberFault) → 1 ≤ status_of_member f
@@ -41,6 +63,7 @@ status_of_some (Binding address cause) = lit≤ tt
 status_of_some (Call call) = lit≤ tt
 status_of_some Turns = lit≤ tt
 status_of_some (Key fault) = lit≤ tt
+status_of_some Record = lit≤ tt
 
 -- and none a greater one than 4
 pub status_of_most : (f : MemberFault) → status_of_member f ≤ 4
@@ -54,12 +77,17 @@ status_of_most (Binding address cause) = lit≤ tt
 status_of_most (Call call) = lit≤ tt
 status_of_most Turns = lit≤ tt
 status_of_most (Key fault) = lit≤ tt
+status_of_most Record = lit≤ tt
 
 pub not_0 : (f : MemberFault) (status : ℕ) (P : Type 0) → status ≡ status_of_member f → status ≡ 0 → P
 not_0 f status P is none = absurd (omega (arith, status_of_some f, is, none))
 
--- an output that failed has a status by itself
-pub kept_by_status : (f : MemberFault) (status : ℕ) (K : Type 0) → status ≡ status_of_member f → (f ≡ Script Output) ⊎ K → (status ≡ WIRE_FAILED) ⊎ (status ≡ RAN_OUT) → K
-kept_by_status f status K is (inr kept) which = kept
-kept_by_status f status K is (inl output) (inl wire) = let one : status ≡ 1 = is ∙ ap status_of_member output in let three : status ≡ 3 = wire in absurd (omega (arith, one, three))
-kept_by_status f status K is (inl output) (inr memory) = let one : status ≡ 1 = is ∙ ap status_of_member output in let four : status ≡ 4 = memory in absurd (omega (arith, one, four))
+-- an output that failed has another status than those, as has a record that isn't whole
+not_1 : (status : ℕ) (K : Type 0) → status ≡ 1 → (status ≡ WIRE_FAILED) ⊎ (status ≡ RAN_OUT) → K
+not_1 status K one (inl wire) = let three : status ≡ 3 = wire in absurd (omega (arith, one, three))
+not_1 status K one (inr memory) = let four : status ≡ 4 = memory in absurd (omega (arith, one, four))
+
+pub kept_by_status : (f : MemberFault) (status : ℕ) (Printed : Type 0) (before after : Option (List ℕ)) → status ≡ status_of_member f → FaultKeeps f Printed before after → (status ≡ WIRE_FAILED) ⊎ (status ≡ RAN_OUT) → Keeps before after
+kept_by_status f status Printed before after is (inl output) which = not_1 status (Keeps before after) (is ∙ ap status_of_member output) which
+kept_by_status f status Printed before after is (inr (inl (unwritten, printed))) which = not_1 status (Keeps before after) (is ∙ ap status_of_member unwritten) which
+kept_by_status f status Printed before after is (inr (inr kept)) which = kept

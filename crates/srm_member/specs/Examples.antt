@@ -1,15 +1,17 @@
 -- Texts and their lines, how a member ends, what it prints then, and the random numbers of a seed.
 use Rattle.std.specs.Prelude.{◌≡◌, true, false, [], ◌∷◌, ◌++◌, map, codes, refl, Some, None, Ok, Err}
 use Rattle.std.specs.Fmt.{digits}
+use Rattle.std.proofs.Common.{inl, inr}
 use Rattle.std.specs.declared.io.ErrorKind.TheVariants as kind
 use Rattle.rand_core.specs.Pcg32Seed.{pcg32_seed}
 use Rattle.rand_core.specs.Steps.{u32_at, word_bytes}
 use Rattle.srm_names.specs.declared.page_msg.PageMsg.TheVariants.{Open, Draw, Left, Close}
 use Rattle.srm_script.specs.declared.fault.ScriptFault.TheVariants.{StandardInput, Memory}
 use Rattle.srm_node.specs.declared.fault.NodeFault.TheVariants as node
-use Rattle.srm_member.specs.declared.fault.MemberFault.TheVariants.{Script, Wire, Turns}
+use Rattle.srm_member.specs.declared.fault.MemberFault.TheVariants.{Script, Wire, Turns, Record}
 use Rattle.srm_member.specs.Lines.{lines_of, each_fourth, bad_line}
-use Rattle.srm_member.specs.Statuses.{fault_of, fault_of_lists, fault_of_live, fault_of_binding, status_of_member}
+use Rattle.srm_member.specs.Statuses.{fault_of, fault_of_lists, fault_of_live, fault_of_binding, status_of_member, IsRecordedEnd}
+use Rattle.srm_member.specs.MemberRuns.{FaultKeeps}
 use Rattle.srm_member.specs.TakenText.{taken_text}
 use Rattle.srm_timers.specs.Seeds.{words_of}
 
@@ -31,7 +33,7 @@ the_second_of_six = refl
 none_is_too_long : bad_line 1 ([] ∷ (97 ∷ []) ∷ []) ≡ None
 none_is_too_long = refl
 
-statuses : map status_of_member (Script StandardInput ∷ Script Memory ∷ Wire ∷ Turns ∷ []) ≡ 1 ∷ 4 ∷ 3 ∷ 4 ∷ []
+statuses : map status_of_member (Script StandardInput ∷ Script Memory ∷ Wire ∷ Turns ∷ Record ∷ []) ≡ 1 ∷ 4 ∷ 3 ∷ 4 ∷ 1 ∷ []
 statuses = refl
 
 a_worker_without_memory : fault_of (Ok tt) true ∷ fault_of (Err node.Wire) true ∷ [] ≡ Some (Script Memory) ∷ Some (Script Memory) ∷ []
@@ -45,6 +47,17 @@ a_list_without_its_close = refl
 
 a_live_run : fault_of_live (Some Wire) (Some Memory) ∷ fault_of_live (Some Turns) (Some StandardInput) ∷ fault_of_live None (Some StandardInput) ∷ fault_of_live None None ∷ [] ≡ Some (Script Memory) ∷ Some Turns ∷ Some (Script StandardInput) ∷ None ∷ []
 a_live_run = refl
+
+-- a record that isn't whole is told of a whole run alone
+a_record_of_a_whole_run : IsRecordedEnd None (Some Record)
+a_record_of_a_whole_run = inr (inl refl)
+
+not_of_spent_turns : IsRecordedEnd (Some Turns) (Some Record) → ⊥
+not_of_spent_turns h = cc (h)
+
+-- and all was printed then
+a_record_after_a_line : FaultKeeps Record (Unit {0}) (Some []) (Some (10 ∷ []))
+a_record_after_a_line = inr (inl (refl, tt))
 
 an_address_in_use : fault_of_binding kind.AddrInUse ≡ Wire
 an_address_in_use = refl

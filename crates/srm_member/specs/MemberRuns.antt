@@ -1,6 +1,6 @@
 -- What a member comes to that is run by its options.
-use Rattle.std.specs.Prelude.{◌≡◌, ℕ, List, Option, None, IfSome, is_some}
-use Rattle.std.specs.Io.KnownBytes.{Appends}
+use Rattle.std.specs.Prelude.{◌≡◌, ◌⊎◌, ℕ, List, Option, None, IfSome, is_some}
+use Rattle.std.specs.Io.KnownBytes.{Appends, Keeps}
 use Rattle.srm_names.specs.declared.page_msg.PageMsg.{PageMsg}
 use Rattle.srm_pages.specs.Ends.{TapView, PenView}
 use Rattle.srm_udp.specs.Clocks.{ClockView, NeverFalls}
@@ -9,6 +9,9 @@ use Rattle.srm_udp.specs.Udp.{UdpView}
 use Rattle.srm_guard.specs.Guards.{GuardView}
 use Rattle.srm_guarded.specs.Guarding.{guarded_wire, GuardedReceives, GuardedSends, GuardedPauses}
 use Rattle.srm_options.specs.declared.node_options.NodeOptions.{NodeOptions}
+use Rattle.srm_script.specs.declared.fault.ScriptFault.TheVariants.{Output}
+use Rattle.srm_member.specs.declared.fault.MemberFault.{MemberFault}
+use Rattle.srm_member.specs.declared.fault.MemberFault.TheVariants.{Script, Record}
 use Rattle.srm_node.specs.Calls.{Calls, calls_of}
 use Rattle.srm_node.specs.Nodes.{NodeView}
 use Rattle.srm_member.specs.Lines.{lines_of, dealt_of}
@@ -19,6 +22,14 @@ use Rattle.srm_member.specs.WholeRuns.{IsWholeRun}
 -- what each call of a member's wire does, which rests above a guarded wire over UDP, and of the system's clock
 abbrev pub member_calls : Calls (RestedView (GuardView UdpView)) ClockView
 member_calls = calls_of NeverFalls (λ r room answer s. ReceivesRested (λ g space told h. GuardedReceives g space told h) r room answer s) (λ r sent failed s. SendsRested (λ g bytes lost h. GuardedSends g bytes lost h) r sent failed s) (λ r micros s. PausesRested GuardedPauses r micros s)
+
+-- The node ran to its end in so many turns, its producers drew what was dealt to them, and what was printed is what its page workers took.
+abbrev pub PrintsRun : {X C : Type 0} → Calls X C → ℕ → List (List (List ℕ)) → NodeView X C → Option (List ℕ) → Option (List ℕ) → Type 0
+PrintsRun calls turns dealt node before after = (took : List (List PageMsg)) × (whole : IsWholeRun calls turns dealt node took) × Appends before after (taken_text whole.host.last.journal.start.config.me took)
+
+-- A fault leaves the output as it was, unless the output failed, or the run was printed whole and its record isn't.
+abbrev pub FaultKeeps : MemberFault → Type 0 → Option (List ℕ) → Option (List ℕ) → Type 0
+FaultKeeps f Printed before after = (f ≡ Script Output) ⊎ ((f ≡ Record) × Printed) ⊎ Keeps before after
 
 -- A member with these options ran to its end over its own wire, with a key if they name a file of one, and its producers drew lines of its input, if that is known.
 -- What was printed is what its page workers took: all that its journal gave.

@@ -69,6 +69,25 @@ abbrev pub fault_with_call : Option WireFailure → MemberFault → MemberFault
 fault_with_call (Some call) fault.Wire = fault.Call call
 fault_with_call _ f = f
 
+-- A run's fault is told with a call that failed, or as it is; of a whole run none is told.
+abbrev pub IsToldOf : Option MemberFault → Option MemberFault → Type 0
+IsToldOf None told = told ≡ None
+IsToldOf (Some f) told = (call : Option WireFailure) × (told ≡ Some (fault_with_call call f))
+
+-- Why a whole run isn't recorded, by whether its file has the whole record: out of memory for what its workers took, or the record.
+abbrev pub fault_of_record : {E : Type 0} → Result Bool E → Option MemberFault
+fault_of_record (Ok true) = None
+fault_of_record (Ok false) = Some fault.Record
+fault_of_record (Err _) = Some (fault.Script OutOfMemory)
+
+abbrev IsFaultOfRecord : Option MemberFault → Type 0
+IsFaultOfRecord told = (told ≡ None) ⊎ (told ≡ Some fault.Record) ⊎ (told ≡ Some (fault.Script OutOfMemory))
+
+-- what ended the run comes before that it isn't recorded
+abbrev pub IsRecordedEnd : Option MemberFault → Option MemberFault → Type 0
+IsRecordedEnd (Some f) told = told ≡ Some f
+IsRecordedEnd None told = IsFaultOfRecord told
+
 -- Why a key file can't be used: out of memory, or another cause.
 abbrev pub fault_of_key : KeyFileFault → MemberFault
 fault_of_key key.Memory = fault.Script OutOfMemory
@@ -82,6 +101,7 @@ status_of_member (fault.Binding address cause) = WIRE_FAILED
 status_of_member (fault.Call call) = WIRE_FAILED
 status_of_member fault.Turns = RAN_OUT
 status_of_member (fault.Key cause) = FAILED
+status_of_member fault.Record = FAILED
 
 -- a whole run has status 0, and any other that of its fault
 abbrev pub IsStatus : ℕ → Type 0

@@ -7,7 +7,7 @@ ghost use Rattle.srm_names.specs.PageFeeds as spec;
 ghost use Rattle.srm_script.specs.declared.fault.ScriptFault.TheVariants.{Memory};
 ghost use Rattle.srm_script.specs.declared.status.TheConstants.{RAN_OUT};
 ghost use Rattle.srm_member.specs.declared.fault.MemberFault.TheVariants.{Script};
-ghost use Rattle.srm_member.specs.Statuses.{fault_of, fault_of_lists, fault_of_live, fault_of_bind, fault_of_binding, fault_of_key, fault_with_call, lacks_memory, status_of_member};
+ghost use Rattle.srm_member.specs.Statuses.{fault_of, fault_of_lists, fault_of_live, fault_of_bind, fault_of_binding, fault_of_key, fault_of_record, fault_with_call, lacks_memory, status_of_member};
 ghost use Rattle.srm_member.specs.TakenText.{has_close};
 
 use srm_guarded::KeyFileFault;
@@ -43,6 +43,9 @@ pub enum MemberFault {
     /// Its key file can't be used.
     #[error("{0}")]
     Key(KeyFileFault),
+    /// The file of its record can't be made, or hasn't the whole record.
+    #[error("srm: record")]
+    Record,
 }
 
 impl MemberFault {
@@ -97,6 +100,17 @@ impl MemberFault {
         }
     }
 
+    /// Returns why a whole run isn't recorded, by whether its file has the whole record, or else memory ran out; `None` if it has. Takes no memory.
+    pub fn of_record(recorded: Result<bool, AllocError>) -> Option<MemberFault>
+        ensures { result ≡ fault_of_record recorded }
+    {
+        match recorded {
+            Ok(true) => None,
+            Ok(false) => Some(MemberFault::Record),
+            Err(_) => Some(MemberFault::Script(ScriptFault::Memory)),
+        }
+    }
+
     /// Returns the fault with the call that failed, where that is known and the wire failed; any other fault stays. Takes no memory.
     pub fn with_call(self, call: Option<WireFailure>) -> MemberFault
         ensures { result ≡ fault_with_call call self }
@@ -121,7 +135,7 @@ impl MemberFault {
                 print_fault(self, err, WIRE_FAILED)
             }
             MemberFault::Turns => print_fault(self, err, RAN_OUT),
-            MemberFault::Key(_) => print_fault(self, err, FAILED),
+            MemberFault::Key(_) | MemberFault::Record => print_fault(self, err, FAILED),
         }
     }
 

@@ -14,8 +14,10 @@
 //! [`run_station`] runs a station and prints. [`Station::run_whole`] returns a [`Ran`], which [`settle_lanes`] and [`join_pens`] compare for contracts. [`host_if`]
 //! runs a node with the caller's sinks. [`wake`] ends a pause by a [`Waking`].
 //!
-//! **Errors**, in this order: a wrong command line; a key file that can't be used; an input that fails, is too long or has a line that is; an address that can't be
-//! bound; and what ends a run. [`MemberFault`] has the text and the status of each. [`noted_call`] returns which call of a wire failed, and why, and [`told_with`] tells a run's fault with it.
+//! A member with a record makes its file by [`open_record`], begins it by [`beginning_of`], and ends it by [`end_record`].
+//!
+//! **Errors**, in this order: a wrong command line; a key file that can't be used; an input that fails, is too long or has a line that is; a record whose file can't be
+//! made; an address that can't be bound; what ends a run; and a record that isn't whole. [`MemberFault`] has the text and the status of each. [`noted_call`] returns which call of a wire failed, and why, and [`told_with`] tells a run's fault with it.
 #![tactic(auto)]
 
 mod dealing;
@@ -24,6 +26,7 @@ mod joining;
 mod noting;
 mod pens;
 mod printing;
+mod recording;
 mod replying;
 mod running;
 mod sink;
@@ -34,6 +37,7 @@ pub use fault::MemberFault;
 pub use joining::{join_pens, settle_lanes};
 pub use noting::{Noting, noted_call, told_with};
 pub use pens::{Waking, send_stroke, share_waker, wake};
+pub use recording::{beginning_of, end_record, open_record};
 pub use replying::print_reply;
 pub use running::{run_node, run_station};
 pub use station::{Ran, Station, host_if};

@@ -1,33 +1,31 @@
 //! A member from its options to its end.
 
-ghost use Rattle.std.specs.Prelude.{◌≡◌, ◌≤◌, ◌⊎◌, List, map, IfErr, OnOk};
-ghost use Rattle.srm_names.specs.declared.page_msg.PageMsg.{PageMsg as AMessage};
+ghost use Rattle.std.specs.Prelude.{◌≡◌, ◌≤◌, ◌⊎◌, map, IfErr, OnOk};
 ghost use Rattle.srm_node.specs.Calls.{calls_of};
 ghost use Rattle.srm_udp.specs.Clocks.{NeverFalls};
-ghost use Rattle.srm_script.specs.declared.fault.ScriptFault.TheVariants.{Output};
 ghost use Rattle.srm_script.specs.declared.status.TheConstants.{WIRE_FAILED, RAN_OUT};
-ghost use Rattle.srm_member.specs.declared.fault.MemberFault.TheVariants.{Script};
 ghost use Rattle.srm_member.specs.Statuses.{IsStatus};
 ghost use Rattle.srm_member.specs.Stations.{HasNewEnds};
-ghost use Rattle.std.specs.Io.KnownBytes.{Appends, Keeps};
-ghost use Rattle.srm_member.specs.TakenText.{taken_text};
-ghost use Rattle.srm_member.specs.WholeRuns.{IsWholeRun};
-ghost use Rattle.srm_member.specs.MemberRuns.{PrintsWholeRun};
+ghost use Rattle.std.specs.Io.KnownBytes.{Keeps};
+ghost use Rattle.srm_member.specs.MemberRuns.{FaultKeeps, PrintsRun, PrintsWholeRun};
 
 use crate::dealing::deal;
 use crate::fault::MemberFault;
 use crate::joining::{join_pens, settle_lanes};
 use crate::noting::{Noting, noted_call};
 use crate::printing::print_taken;
+use crate::recording::{end_record, open_record};
 use crate::station::{Ran, Station};
 use bytes::Bytes;
 use srm_agent::Entry;
 use srm_guarded::read_key;
 use srm_node::{Hosted, Wire};
 use srm_options::NodeOptions;
+use srm_record::Written;
 use srm_script::read_input;
 use srm_world::Past;
 use std::alloc::Global;
+use std::fs::OpenFile;
 use std::io::{Read, Write};
 use std::net::Net;
 use std::rt::Files;
@@ -37,9 +35,10 @@ use std::time;
 
 /// Runs a member with these options, draws the lines of the input, and prints what its page workers took.
 ///
-/// Returns the program's status: 0; 1 if the key file can't be used, the input has more than 1,000,000 bytes or a line of more than 1,024, or a stream fails; 3 if
-/// the socket or the clock fails, with the cause if `verbose` is set; 4 if memory ran out, a worker's too, or all turns were spent. The options' `live` and `linger` aren't used. The fault goes to
-/// `err`; nothing else is printed then, unless the output failed. The node keeps no journal, since nobody reads one.
+/// Returns the program's status: 0; 1 if the key file can't be used, the input has more than 1,000,000 bytes or a line of more than 1,024, a stream fails, or the
+/// record can't be made or written whole; 3 if the socket or the clock fails, with the cause if `verbose` is set; 4 if memory ran out, a worker's too, or all turns were
+/// spent. The options' `live` and `linger` aren't used. The fault goes to `err`; nothing else is printed then, unless the output failed, or the run was whole and its
+/// record isn't. The node keeps no journal, since nobody reads one.
 #[tactic(auto, using(crate::proofs::MemberRuns::not_0, crate::proofs::MemberRuns::kept_by_status))]
 pub fn run_node<R, I: Read, O: Write, E: Write>(
     rt: &R,
@@ -72,23 +71,24 @@ fn run<R, I: Read, O: Write>(
 where
     R: Net + Files + time::Clock + Threads + Wait + Copy + Send + Drop + 'static,
     ensures whole { OnOk result (PrintsWholeRun options (I.remaining reader.old) (O.contents out.old) (O.contents out.new)) }
-    ensures nothing { IfErr result (λ fault. (fault ≡ Script Output) ⊎ Keeps (O.contents out.old) (O.contents out.new)) }
+    ensures nothing { IfErr result (λ fault. FaultKeeps fault (PrintsWholeRun options (I.remaining reader.old) (O.contents out.old) (O.contents out.new)) (O.contents out.old) (O.contents out.new)) }
 {
     let key = read_key(rt, alloc, &options.guard)?;
     let input = read_input(alloc, reader)?;
     let dealt = deal(alloc, input.as_slice())?;
     drop(input);
     let turns = options.turns;
-    let (station, noting) = Station::bind_noting(rt, alloc, options, key)?;
+    let record = open_record(rt, &options)?;
+    let (station, noting) = Station::bind_noting(rt, alloc, options, key, record)?;
     run_noting(rt, alloc, station, dealt, turns, &noting, out)
 }
 
 // Runs a station as `run_station` does, and tells which call of its wire failed, if that is noted.
 #[tactic(auto, using(crate::proofs::MemberRuns::still_output))]
-fn run_noting<R, X, P, O>(
+fn run_noting<R, X, F, P, O>(
     rt: &R,
     alloc: Global,
-    station: Station<R, X, P>,
+    station: Station<R, X, Written<F, P>>,
     dealt: Vec<Vec<Bytes>>,
     turns: u64,
     noting: &Noting,
@@ -97,12 +97,12 @@ fn run_noting<R, X, P, O>(
 where
     R: time::Clock + Threads + Wait + Copy + Send + Drop + 'static,
     X: Wire + Drop,
+    F: Write + OpenFile + Drop,
     P: Past<Entry> + Drop,
     O: Write,
     requires { HasNewEnds station.node.view station.taps.items station.pens.items }
-    ensures whole { OnOk result ((took : List (List AMessage)) × (whole : IsWholeRun (calls_of NeverFalls X.receives X.sends X.pauses) turns (map (λ bodies. bodies.items) dealt.items) station.node.view took)
-        × Appends (O.contents out.old) (O.contents out.new) (taken_text whole.host.last.journal.start.config.me took)) }
-    ensures nothing { IfErr result (λ fault. (fault ≡ Script Output) ⊎ Keeps (O.contents out.old) (O.contents out.new)) }
+    ensures whole { OnOk result (PrintsRun (calls_of NeverFalls X.receives X.sends X.pauses) turns (map (λ bodies. bodies.items) dealt.items) station.node.view (O.contents out.old) (O.contents out.new)) }
+    ensures nothing { IfErr result (λ fault. FaultKeeps fault (PrintsRun (calls_of NeverFalls X.receives X.sends X.pauses) turns (map (λ bodies. bodies.items) dealt.items) station.node.view (O.contents out.old) (O.contents out.new)) (O.contents out.old) (O.contents out.new)) }
 {
     match run_station(rt, alloc, station, dealt, turns, out) {
         Ok(()) => Ok(()),
@@ -113,13 +113,14 @@ where
 /// Runs a new station to its end, and prints what its page workers took. Its k-th producer draws the k-th list of bodies.
 ///
 /// `turns` is the most turns of the node. Fails as [`Station::run`] does, with what ended the run ([`MemberFault::of_whole_run`]), with
-/// [`ScriptFault::Memory`](srm_script::ScriptFault) before it prints, or with [`ScriptFault::Output`](srm_script::ScriptFault) after a prefix of the text. Any
-/// other fault leaves `out` as it was, so nothing is printed unless the run was whole: then what is printed as taken in a page slot is all that the node's journal
-/// gave there, to its close. The strokes that the journal drew of a producer are a prefix of its bodies, in order.
-pub fn run_station<R, X, P, O>(
+/// [`ScriptFault::Memory`](srm_script::ScriptFault) before it prints, with [`ScriptFault::Output`](srm_script::ScriptFault) after a prefix of the text, or with
+/// [`MemberFault::Record`] after all of it if the file hasn't the whole record. Any other fault leaves `out` as it was, so nothing is printed unless the run was whole:
+/// then what is printed as taken in a page slot is all that the node's journal gave there, to its close. The strokes that the journal drew of a producer are a prefix
+/// of its bodies, in order.
+pub fn run_station<R, X, F, P, O>(
     rt: &R,
     alloc: Global,
-    station: Station<R, X, P>,
+    station: Station<R, X, Written<F, P>>,
     dealt: Vec<Vec<Bytes>>,
     turns: u64,
     out: &mut O,
@@ -127,12 +128,12 @@ pub fn run_station<R, X, P, O>(
 where
     R: time::Clock + Threads + Wait + Copy + Send + Drop + 'static,
     X: Wire + Drop,
+    F: Write + OpenFile + Drop,
     P: Past<Entry> + Drop,
     O: Write,
     requires { HasNewEnds station.node.view station.taps.items station.pens.items }
-    ensures whole { OnOk result ((took : List (List AMessage)) × (whole : IsWholeRun (calls_of NeverFalls X.receives X.sends X.pauses) turns (map (λ bodies. bodies.items) dealt.items) station.node.view took)
-        × Appends (O.contents out.old) (O.contents out.new) (taken_text whole.host.last.journal.start.config.me took)) }
-    ensures nothing { IfErr result (λ fault. (fault ≡ Script Output) ⊎ Keeps (O.contents out.old) (O.contents out.new)) }
+    ensures whole { OnOk result (PrintsRun (calls_of NeverFalls X.receives X.sends X.pauses) turns (map (λ bodies. bodies.items) dealt.items) station.node.view (O.contents out.old) (O.contents out.new)) }
+    ensures nothing { IfErr result (λ fault. FaultKeeps fault (PrintsRun (calls_of NeverFalls X.receives X.sends X.pauses) turns (map (λ bodies. bodies.items) dealt.items) station.node.view (O.contents out.old) (O.contents out.new)) (O.contents out.old) (O.contents out.new)) }
 {
     let Ran { hosted, ends, pens } = station.run_whole(rt, alloc, dealt, turns)?;
     let Hosted {
@@ -141,14 +142,20 @@ where
         worked,
         end,
     } = hosted;
+    let me = journal.start().config.me();
+    let is_recorded = end_record(alloc, journal, worked.as_slice())?;
     match MemberFault::of_whole_run(end, worked.as_slice()) {
         Some(fault) => Err(fault),
         None => {
-            print_taken(alloc, out, journal.start().config.me(), worked.as_slice())?;
+            print_taken(alloc, out, me, worked.as_slice())?;
             settle_lanes(feeds, worked);
             let mut well = ends.well;
             join_pens(&mut well, pens);
-            Ok(())
+            if is_recorded {
+                Ok(())
+            } else {
+                Err(MemberFault::Record)
+            }
         }
     }
 }

@@ -22,6 +22,7 @@ ghost use Rattle.srm_member.specs.Strokes.{PensDrew, pens_with};
 use crate::fault::MemberFault;
 use crate::noting::{Noting, note_if};
 use crate::pens::{PenThreads, Waking, share_waker};
+use crate::recording::beginning_of;
 use crate::sink::{Unseen, sinks};
 use bytes::Bytes;
 use srm_agent::{Config, Entry};
@@ -32,12 +33,14 @@ use srm_node::{Hosted, Node, NodeEnds, PageSink, host_with_ends};
 use srm_options::NodeOptions;
 use srm_pages::ends::Well;
 use srm_pages::{Feed, Inked, Pen, Tap, lanes, well};
+use srm_record::Written;
 use srm_script::ScriptFault;
 use srm_timers::Pcg;
 use srm_udp::{Rested, SystemClock, UdpWire};
 use srm_wire::Wire;
 use srm_world::{Forgotten, Past};
 use std::alloc::{AllocError, Global};
+use std::io::Write;
 use std::net::{Net, SocketAddr};
 use std::sync::Wait;
 use std::thread::Threads;
@@ -61,14 +64,14 @@ pub struct Station<
     pub waker: Waking,
 }
 
-impl<R: time::Clock + Copy + Drop> Station<
+impl<R: time::Clock + Copy + Drop, F: Write + Drop> Station<
     R,
     Rested<R, Guard<UdpWire>>,
-    Published<Forgotten<Entry>>,
+    Written<F, Published<Forgotten<Entry>>>,
 > {
     /// Binds a member to its own address, with the guard that its options ask for, and `key` as [`read_key`](srm_guarded::read_key) returns it for them: without it
-    /// nothing is tagged or checked, even if the options name a key file. The node keeps no entry, and leaves `stay` microseconds after its start. `linger`, `live`
-    /// and `turns` aren't used.
+    /// nothing is tagged or checked, even if the options name a key file. The node keeps no entry, and leaves `stay` microseconds after its start. Its record goes to
+    /// `record`, if there is a file, whatever path the options name. `linger`, `live` and `turns` aren't used.
     ///
     /// Fails with [`MemberFault::Wire`] if the address can't be bound, or with [`MemberFault::Binding`] and the cause if `verbose` is set; with `Wire` if the clock
     /// can't be read; and if out of memory.
@@ -77,13 +80,17 @@ impl<R: time::Clock + Copy + Drop> Station<
         alloc: Global,
         options: NodeOptions,
         key: Option<Key>,
-    ) -> Result<Station<R, Rested<R, Guard<UdpWire>>, Published<Forgotten<Entry>>>, MemberFault>
+        record: Option<F>,
+    ) -> Result<
+        Station<R, Rested<R, Guard<UdpWire>>, Written<F, Published<Forgotten<Entry>>>>,
+        MemberFault,
+    >
     where
         R: Net,
         ensures new { IfOk result (λ s. IsNewStation options.config options.stay None (new_rested (guarded_wire options.addresses.items options.guard key)) s.node.view s.taps.items s.pens.items) }
         ensures words { IfOk result (λ s. s.node.words ≡ words_of options.seed) }
     {
-        let (station, _) = Station::bind_noting(rt, alloc, options, key)?;
+        let (station, _) = Station::bind_noting(rt, alloc, options, key, record)?;
         Ok(station)
     }
 
@@ -93,9 +100,10 @@ impl<R: time::Clock + Copy + Drop> Station<
         alloc: Global,
         options: NodeOptions,
         key: Option<Key>,
+        record: Option<F>,
     ) -> Result<
         (
-            Station<R, Rested<R, Guard<UdpWire>>, Published<Forgotten<Entry>>>,
+            Station<R, Rested<R, Guard<UdpWire>>, Written<F, Published<Forgotten<Entry>>>>,
             Noting,
         ),
         MemberFault,
@@ -105,6 +113,7 @@ impl<R: time::Clock + Copy + Drop> Station<
         ensures new { IfOk result (λ n. IsNewStation options.config options.stay None (new_rested (guarded_wire options.addresses.items options.guard key)) n.0.node.view n.0.taps.items n.0.pens.items) }
         ensures words { IfOk result (λ n. n.0.node.words ≡ words_of options.seed) }
     {
+        let beginning = beginning_of(rt, &options);
         let NodeOptions {
             config,
             seed,
@@ -131,6 +140,7 @@ impl<R: time::Clock + Copy + Drop> Station<
             ) => {
                 let wire = Rested::new(*rt, wire);
                 let past = Published::new(alloc, Forgotten::new(), known);
+                let past = Written::new(alloc, record, beginning, past);
                 match Station::make(rt, alloc, config, seed, stay, wire, waker, past) {
                     Ok(station) => Ok((station, note_if(verbose, failure))),
                     Err(fault) => Err(fault),

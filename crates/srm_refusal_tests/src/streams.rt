@@ -7,6 +7,7 @@ use srm_guarded::Published;
 use srm_member::{MemberFault, Station, deal, print_reply, run_node};
 use srm_node::{Hosted, WorkEnd};
 use srm_options::{NodeOptions, read_node};
+use srm_record::Written;
 use srm_world::Forgotten;
 use std::alloc::Global;
 use std::net::Net;
@@ -16,7 +17,7 @@ use std::thread::Threads;
 use std::time::Clock;
 
 /// A member's run whose workers run out of memory.
-type ScarceRun = Hosted<Published<Forgotten<Entry>>, Scarce>;
+type ScarceRun = Hosted<Written<Vec<u8>, Published<Forgotten<Entry>>>, Scarce>;
 
 /// A member that is the only one of its session, at a port that nobody has, and leaves at once.
 const WORDS: [&str; 7] = ["--session", "7", "--me", "0", "--stay", "0", "127.0.0.1:0"];
@@ -57,7 +58,8 @@ fn run_scarce<R: Net + Clock + Threads + Wait + Copy + Send + Drop + 'static>(
 ) -> Result<ScarceRun, MemberFault> {
     let dealt = deal(alloc, b"hi\n")?;
     let turns = options.turns;
-    Station::bind(rt, alloc, options, None)?.run(rt, alloc, dealt, turns)
+    let record: Option<Vec<u8>> = None;
+    Station::bind(rt, alloc, options, None, record)?.run(rt, alloc, dealt, turns)
 }
 
 /// All workers of a node that ran to its end lacked memory.

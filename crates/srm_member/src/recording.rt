@@ -1,0 +1,111 @@
+//! A member's record: its file, how it begins and how it ends.
+
+ghost use Rattle.std.specs.Prelude.{◌≡◌, length, vec_len, IfOk};
+
+use crate::fault::MemberFault;
+use srm_agent::Entry;
+use srm_frames::Beginning;
+use srm_names::{PAGES, PageMsg};
+use srm_node::Worked;
+use srm_options::NodeOptions;
+use srm_record::{Ended, Written};
+use srm_world::{Journal, Past};
+use std::alloc::{AllocError, Global};
+use std::fs::{OpenFile, OpenOptions};
+use std::io::{ErrorKind, Write};
+use std::os::unix::fs::OpenOptionsExt;
+use std::rt::Files;
+use std::time;
+use std::time::{SystemTime, UNIX_EPOCH};
+
+/// Who owns the record may read and write it, and nobody else: it has every stroke.
+const MODE: u32 = 0o600;
+
+/// Makes the file of a member's record, if its options name one. Returns `None` if they name none. Fails with [`MemberFault::Record`] if the file can't be made, as
+/// when there is one with this path, and if out of memory.
+pub fn open_record<R: Files>(
+    rt: &R,
+    options: &NodeOptions,
+) -> Result<Option<R::File>, MemberFault> {
+    let Some(path) = &options.record else {
+        return Ok(None);
+    };
+    let mut how = OpenOptions::new();
+    how.write(true).create_new(true).mode(MODE);
+    match how.open(rt, path.as_str()) {
+        Ok(file) => Ok(Some(file)),
+        Err(error) if error.kind() == ErrorKind::OutOfMemory => {
+            Err(MemberFault::from(AllocError))
+        }
+        Err(_) => Err(MemberFault::Record),
+    }
+}
+
+/// Returns how the record of a member with these options begins. The member is made at moment 0 of its clock.
+pub fn beginning_of<R: time::Clock>(rt: &R, options: &NodeOptions) -> Beginning
+    ensures config { result.config ≡ options.now.config }
+    ensures made { result.made ≡ 0 }
+    ensures seed { result.seed ≡ options.now.seed }
+{
+    Beginning {
+        config: options.config,
+        made: 0,
+        seed: options.seed,
+        wall: wall_micros(rt),
+    }
+}
+
+// The time of day in microseconds since 1970, or 0 if the system can't tell it.
+fn wall_micros<R: time::Clock>(rt: &R) -> u64 {
+    let Ok(now) = SystemTime::now(rt) else {
+        return 0;
+    };
+    match now.duration_since(UNIX_EPOCH) {
+        Ok(time) => u64::try_from(time.as_micros()).unwrap_or(0),
+        Err(_) => 0,
+    }
+}
+
+/// Ends a member's record with what its page workers took, by page slot, and asks the system to store it. Returns whether the file has the whole record; true if there is
+/// no file. It hasn't if there are more workers than page slots. Fails if out of memory for a copy of the workers' lists; the file has a front of the record then.
+pub fn end_record<F: Write + OpenFile + Drop, P: Past<Entry> + Drop>(
+    alloc: Global,
+    journal: Journal<Written<F, P>>,
+    worked: &[Worked],
+) -> Result<bool, AllocError> {
+    let (_, past) = journal.into_parts();
+    let taken = lists_of(alloc, worked)?;
+    // A record has at most one list of each page slot.
+    if taken.len() > usize::from(PAGES) {
+        return Ok(false);
+    }
+    let Ended { whole, file, .. } = past.end(taken.as_slice());
+    Ok(whole && is_stored(&file))
+}
+
+fn is_stored<F: OpenFile>(file: &Option<F>) -> bool {
+    match file {
+        Some(file) => file.sync_all().is_ok(),
+        None => true,
+    }
+}
+
+// What each worker took.
+fn lists_of(alloc: Global, worked: &[Worked]) -> Result<Vec<Vec<PageMsg>>, AllocError>
+    ensures { IfOk result (λ lists. vec_len lists ≡ length worked.now) }
+{
+    let mut lists = Vec::new(alloc);
+    for worker in worked {
+        let list = copy_of(alloc, worker.list.as_slice())?;
+        lists.push(list).map_err(AllocError::from)?;
+    }
+    Ok(lists)
+}
+
+fn copy_of(alloc: Global, messages: &[PageMsg]) -> Result<Vec<PageMsg>, AllocError> {
+    let mut copy = Vec::new(alloc);
+    for message in messages {
+        copy.push(message.copy()?).map_err(AllocError::from)?;
+    }
+    Ok(copy)
+}
