@@ -4,6 +4,7 @@
  *
  *   memory                   malloc, calloc, realloc, posix_memalign, aligned_alloc: no memory
  *   read, write              read or write fails
+ *   sync                     fsync fails
  *   send, receive            sendto or recvfrom fails
  *   short-read, short-write  the call moves one byte, where it was to move more
  *   short-send               the same of a datagram
@@ -38,7 +39,7 @@ extern void *__libc_memalign(size_t, size_t);
 
 /* The library's own calls, which those below stand before. */
 #define EACH(X)                                                                                                                                \
-    X(read) X(write) X(sendto) X(recvfrom) X(socket) X(bind) X(ioctl) X(epoll_create1) X(epoll_ctl) X(epoll_wait) X(clock_gettime)              \
+    X(read) X(write) X(fsync) X(sendto) X(recvfrom) X(socket) X(bind) X(ioctl) X(epoll_create1) X(epoll_ctl) X(epoll_wait) X(clock_gettime)     \
     X(pthread_create)
 #define DECLARE(name) static __typeof__(name) *real_##name;
 #define FIND(name) real_##name = (__typeof__(name) *)dlsym(RTLD_NEXT, #name);
@@ -132,6 +133,8 @@ ssize_t read(int file, void *bytes, size_t count) {
 ssize_t write(int file, const void *bytes, size_t count) {
     return fails("write", EIO) ? -1 : real_write(file, bytes, shortened("short-write", count));
 }
+
+int fsync(int file) { return fails("sync", EIO) ? -1 : real_fsync(file); }
 
 ssize_t sendto(int file, const void *bytes, size_t count, int flags, const struct sockaddr *to, socklen_t size) {
     return fails("send", EIO) ? -1 : real_sendto(file, bytes, shortened("short-send", count), flags, to, size);

@@ -1,4 +1,4 @@
-//! The program: a world of scripts, pictures of it, and a member over UDP, with a board or without.
+//! The program: a world of scripts, pictures of it, a member over UDP, with a board or without, and the records of a session.
 #![tactic(auto)]
 
 mod standard_streams;
@@ -7,14 +7,15 @@ use crate::standard_streams::{STDIN, fill_standard_streams};
 use srm_board::run_board;
 use srm_live::{PolledInput, run_live};
 use srm_member::{print_reply, run_node};
-use srm_options::{WorldOptions, read_board, read_node_on, read_picture, read_world};
+use srm_options::{WorldOptions, read_audit, read_board, read_node_on, read_picture, read_world};
 use srm_played::run_picture;
 use srm_script::{Dialect, ScriptFault, WRONG_USAGE, run_script_in};
+use srm_verdicts::run_audit;
 use std::alloc::{AllocError, Global};
 use std::io::{ErrorKind, IsTerminal, Read, Write, writer};
 use std::net::Net;
 use std::process::ExitCode;
-use std::rt::Env;
+use std::rt::{Env, Files};
 use std::{env, io};
 
 fn main(rt: HostRuntime) -> ExitCode {
@@ -45,6 +46,7 @@ fn main(rt: HostRuntime) -> ExitCode {
             Ok(()) => run_picture(alloc, &mut rt.stdin(), &mut writer(&rt), &mut err),
             Err(reply) => print_reply(&reply, &mut writer(&rt), &mut err),
         },
+        ["audit", arguments @ ..] => judge(&rt, arguments, &mut writer(&rt), &mut err),
         arguments => match read_world(alloc, arguments) {
             Ok(options) => {
                 let dialect = dialect_of(&options);
@@ -54,6 +56,19 @@ fn main(rt: HostRuntime) -> ExitCode {
         },
     };
     ExitCode::from(status)
+}
+
+/// Judges the records that a command line of `srm audit` names. The program's status.
+fn judge<'a, R: Files + AllocGlobal, O: Write, E: Write>(
+    rt: &R,
+    arguments: &'a [&'a str],
+    out: &mut O,
+    err: &mut E,
+) -> u8 {
+    match read_audit(rt.alloc(), arguments) {
+        Ok(options) => run_audit(rt, &options, out, err),
+        Err(reply) => print_reply(&reply, out, err),
+    }
 }
 
 /// The terminal that is typed at. Where the input is none, the page alone says when a board's member leaves.
