@@ -58,7 +58,7 @@ fn unnumbered(alloc: Global, strokes: &[&str]) -> Result<String, AllocError> {
 }
 
 /// Runs a member that owns its command line and its input.
-fn run_owned<R>(rt: &R, line: String, input: Vec<u8>) -> Result<Ran, AllocError>
+pub(crate) fn run_owned<R>(rt: &R, line: String, input: Vec<u8>) -> Result<Ran, AllocError>
 where
     R: Net + Files + Clock + Threads + Wait + AllocGlobal + Copy + Send + Drop + 'static,
 {

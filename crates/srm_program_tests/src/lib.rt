@@ -39,6 +39,8 @@ mod polling;
 #[cfg(test)]
 mod reading;
 #[cfg(test)]
+mod recording;
+#[cfg(test)]
 mod relay;
 #[cfg(test)]
 mod rig;

@@ -1,13 +1,12 @@
 //! Three members between which a relay drops and doubles.
 
 use crate::judging::assert_three;
-use crate::relay::{Relay, Relayed, Stop};
+use crate::relay::{Relay, Relayed, stops_before};
 use crate::rig::bound;
 use crate::three::{Role, alike, run_over};
 use srm_node::Hosted;
 use std::alloc::Global;
-use std::io;
-use std::net::{Net, SocketAddr};
+use std::net::Net;
 use std::sync::Wait;
 use std::test::Fail;
 use std::thread::Threads;
@@ -29,23 +28,6 @@ where
     let relay = Relay::start(*rt, alloc, stops)?;
     let members = run_over(rt, alloc, [first, second, third], to, roles)?;
     Ok((members, relay.end(rt)))
-}
-
-/// The stops of a relay before members at these addresses, and where these stops are.
-fn stops_before(
-    net: &impl Net,
-    members: [SocketAddr; 3],
-) -> io::Result<([Stop; 3], [SocketAddr; 3])> {
-    let [first, second, third] = members;
-    let (near_first, for_first) = bound(net)?;
-    let (near_second, for_second) = bound(net)?;
-    let (near_third, for_third) = bound(net)?;
-    let stops = [
-        Stop::new(near_first, first),
-        Stop::new(near_second, second),
-        Stop::new(near_third, third),
-    ];
-    Ok((stops, [for_first, for_second, for_third]))
 }
 
 #[test]

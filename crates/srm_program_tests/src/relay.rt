@@ -1,13 +1,14 @@
 //! A relay between members, which drops and doubles.
 
+use crate::rig::bound;
 use mio::net::UdpSocket;
 use std::alloc::{AllocError, Global};
-use std::net::SocketAddr;
+use std::net::{Net, SocketAddr};
 use std::sync::atomic::{AtomicBool, Ordering};
 use std::sync::{Arc, Wait};
-use std::thread;
 use std::thread::{JoinHandle, Threads};
 use std::time::{Clock, Duration};
+use std::{io, thread};
 
 /// Of the first datagrams to a member, so many, every third is dropped, and the one after it goes twice. All later ones pass.
 const LOSSY: u32 = 30;
@@ -75,6 +76,23 @@ impl Stop {
             _ => 1,
         }
     }
+}
+
+/// The stops of a relay before members at these addresses, and where these stops are.
+pub(crate) fn stops_before(
+    net: &impl Net,
+    members: [SocketAddr; 3],
+) -> io::Result<([Stop; 3], [SocketAddr; 3])> {
+    let [first, second, third] = members;
+    let (near_first, for_first) = bound(net)?;
+    let (near_second, for_second) = bound(net)?;
+    let (near_third, for_third) = bound(net)?;
+    let stops = [
+        Stop::new(near_first, first),
+        Stop::new(near_second, second),
+        Stop::new(near_third, third),
+    ];
+    Ok((stops, [for_first, for_second, for_third]))
 }
 
 /// A relay in its thread.
