@@ -1,6 +1,7 @@
 """Live members on loopback, what they take and when, and a relay between them.
 
 The members run by ./srm, which has to be built (`./srm build`), or by the program named in SRM."""
+import contextlib
 import itertools
 import os
 import pathlib
@@ -94,6 +95,20 @@ class Member:
         return len(self.taken.get(source, ()))
 
 
+def start_into(folder, number, program, *words):
+    """Starts a member whose output and standard error go to the files NUMBER.out and NUMBER.err of a folder. Its process, to whose `stdin` one types."""
+    words = [program, "node", "--session", "7", "--me", str(number), *words]
+    with open(f"{folder}/{number}.out", "wb") as out, open(f"{folder}/{number}.err", "wb") as err:
+        return subprocess.Popen(words, stdin=subprocess.PIPE, stdout=out, stderr=err)
+
+
+def end_input(processes):
+    """Ends the input of processes, also of those that have ended."""
+    for it in processes:
+        with contextlib.suppress(BrokenPipeError):
+            it.stdin.close()
+
+
 def until(members, is_done):
     """Reads until it is so. Stops with status 1 where that takes too long, or a member ends."""
     name = "/".join(pathlib.Path(sys.argv[0]).parts[-3:-1])
@@ -122,7 +137,7 @@ def kill(members):
 
 
 class Relay:
-    """Passes on what members send each other, where `passes` says so of the sender, the receiver and the datagram.
+    """Passes on what members send each other, as often as `passes` says of the sender, the receiver and the datagram: a number, or whether at all.
 
     Each member knows each other one by an address of the relay, and hears it from there: so it may keep to its roster."""
 
@@ -158,7 +173,7 @@ class Relay:
             while True:
                 datagram = stop.recv(65_536)
                 self.sent[sender] += len(datagram)
-                if self.passes(sender, receiver, datagram):
+                for _ in range(self.passes(sender, receiver, datagram)):
                     self.send(sender, receiver, datagram)
         except OSError:
             # There is no more, or the receiver isn't there.
