@@ -4,19 +4,19 @@
 mod standard_streams;
 
 use crate::standard_streams::{STDIN, fill_standard_streams};
+use srm_arguments::{ArgumentFault, read_arguments, texts_of};
 use srm_board::run_board;
 use srm_live::{PolledInput, run_live};
 use srm_member::{print_reply, run_node};
 use srm_options::{WorldOptions, read_audit, read_board, read_node_on, read_picture, read_world};
 use srm_played::run_picture;
-use srm_script::{Dialect, ScriptFault, WRONG_USAGE, run_script_in};
+use srm_script::{Dialect, run_script_in};
 use srm_verdicts::run_audit;
-use std::alloc::{AllocError, Global};
-use std::io::{ErrorKind, IsTerminal, Read, Write, writer};
+use std::alloc::Global;
+use std::io::{IsTerminal, Read, Write, writer};
 use std::net::Net;
 use std::process::ExitCode;
-use std::rt::{Env, Files};
-use std::{env, io};
+use std::rt::Files;
 
 fn main(rt: HostRuntime) -> ExitCode {
     fill_standard_streams(&rt);
@@ -24,10 +24,10 @@ fn main(rt: HostRuntime) -> ExitCode {
     let mut err = rt.stderr();
     let arguments = match read_arguments(&rt) {
         Ok(arguments) => arguments,
-        Err(error) => return ExitCode::from(tell_arguments(&error, &mut err)),
+        Err(fault) => return ExitCode::from(fault.print(&mut err)),
     };
     let Ok(texts) = texts_of(alloc, arguments.as_slice()) else {
-        return ExitCode::from(ScriptFault::Memory.print(&mut err));
+        return ExitCode::from(ArgumentFault::Memory.print(&mut err));
     };
     let status = match texts.as_slice() {
         ["node", arguments @ ..] => match read_node_on(&rt, alloc, arguments) {
@@ -89,26 +89,5 @@ fn dialect_of(options: &WorldOptions) -> Dialect {
         Dialect::Extended
     } else {
         Dialect::Plain
-    }
-}
-
-/// The arguments behind the program's name.
-fn read_arguments<R: Env + AllocGlobal>(rt: &R) -> io::Result<Vec<String>> {
-    let arguments: Vec<String> = env::args(rt)?.skip(1).collect(rt.alloc())?;
-    Ok(arguments)
-}
-
-fn texts_of<'a>(alloc: Global, arguments: &'a [String]) -> Result<Vec<&'a str>, AllocError> {
-    arguments.iter().map(|word| word.as_str()).collect(alloc)
-}
-
-/// Prints why the command line can't be read, and returns the status.
-fn tell_arguments<E: Write>(error: &io::Error, err: &mut E) -> u8 {
-    match error.kind() {
-        ErrorKind::OutOfMemory => ScriptFault::Memory.print(err),
-        _ => {
-            let _ = writeln!(err, "error: the command line is no text");
-            WRONG_USAGE
-        }
     }
 }
