@@ -1,5 +1,8 @@
 pub mod Askings
-pub mod TypedLines
+pub mod LiveLines
+pub mod LiveMembers
 pub mod LiveRuns
 pub mod PageNames
 pub mod Recorded
+pub mod Sent
+pub mod TypedLines

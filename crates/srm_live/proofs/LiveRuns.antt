@@ -27,7 +27,7 @@ use Rattle.srm_member.specs.Statuses.{fault_of, fault_of_lists}
 use Rattle.srm_member.specs.WholeRuns.{TakePrefixes, IsReceivedOf, SawEach}
 use Rattle.srm_member.proofs.WholeRuns.{without_fault, hosted_whole, map_prefix, whole_host_ends, saw_each}
 use Rattle.srm_member.proofs.WholeTakes.{of_lists, lists_closed}
-use Rattle.srm_live.specs.Asking.{Answers, AreAmong, begins, begins_in, taken_by, answered_by, HearsLast}
+use Rattle.srm_live.specs.Asking.{Answers, AreAmong, begins, begins_in, HearsLast}
 use Rattle.srm_live.specs.LiveRuns.{typist, HaveTyped, AreOnLines, AreFirstOf, IsTyped, IsWholeLiveRun, ReceivesTyped}
 use Rattle.srm_live.specs.Typing.{SentPrefixOf, pen_stroke, strokes_in}
 use Rattle.srm_live.proofs.Askings.{among_before, begins-append}

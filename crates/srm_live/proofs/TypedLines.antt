@@ -16,7 +16,6 @@ use Rattle.srm_control.specs.Ends.{ControlView}
 use Rattle.srm_live.specs.declared.cut.ReadingEnd.{ReadingEnd}
 use Rattle.srm_live.specs.declared.typed.Typed.{Typed}
 use Rattle.srm_live.specs.declared.typed.Typed.TheVariants.{Stroke, TooLong, Order}
-use Rattle.srm_live.specs.declared.command.Command.{Command}
 use Rattle.srm_live.specs.declared.command.Command.TheVariants.{Show, Begin, Pages, Who, Help}
 use Rattle.srm_live.specs.Commands.{said_of}
 use Rattle.srm_member.specs.Lines.{lines_of, before_first}

@@ -1,5 +1,5 @@
 -- What is drawn of a text as it is typed, what its commands are, and what is printed of a body.
-use Rattle.std.specs.Prelude.{◌≡◌, Bool, true, false, [], ◌∷◌, ◌++◌, length, map, replicate, refl, codes, Option, Some, None, Ok, Err}
+use Rattle.std.specs.Prelude.{◌≡◌, true, false, [], ◌∷◌, ◌++◌, length, map, replicate, refl, codes, Option, Some, None, Ok, Err}
 use Rattle.std.proofs.Common.{inl, inr, ⊎_elim, ap}
 use Rattle.srm_names.specs.declared.page.Page.{Page}
 use Rattle.srm_names.specs.Names.{first_page, named, stream_on}

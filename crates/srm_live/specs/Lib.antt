@@ -2,7 +2,10 @@ pub mod Asking
 pub mod Commands
 pub mod Earlier
 pub mod Examples
+pub mod LineExamples
+pub mod LiveLines
 pub mod LiveRuns
+pub mod LiveMembers
 pub mod LiveStatuses
 pub mod Needs
 pub mod News

@@ -1,5 +1,5 @@
 -- How a live member ends, and with which status.
-use Rattle.std.specs.Prelude.{ℕ, Bool, true, false, Option, Some, None}
+use Rattle.std.specs.Prelude.{◌≡◌, ◌⊎◌, ℕ, Bool, true, false, Option, Some, None}
 use Rattle.srm_script.specs.Statuses.{IsStatusBy}
 use Rattle.srm_member.specs.declared.fault.MemberFault.{MemberFault}
 use Rattle.srm_member.specs.Statuses.{status_of_member}
@@ -21,3 +21,11 @@ abbrev pub fault_of_end : Option MemberFault → Bool → Option LiveFault
 fault_of_end (Some f) _ = Some (Member f)
 fault_of_end None true = Some WasBefore
 fault_of_end None false = None
+
+-- the run was whole, as it should be or not
+abbrev pub IsWholeEnd : Option LiveFault → Type 0
+IsWholeEnd end = (end ≡ None) ⊎ (end ≡ Some WasBefore)
+
+-- so the statuses say
+abbrev pub IsWholeStatus : ℕ → Type 0
+IsWholeStatus status = (status ≡ 0) ⊎ (status ≡ WAS_BEFORE)

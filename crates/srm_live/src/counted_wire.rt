@@ -9,9 +9,10 @@ use srm_names::Member;
 use srm_udp::{Losses, UdpWire};
 use srm_wire::{Wire, WireFault};
 use std::alloc::Global;
+use std::marker::Model;
 use std::sync::Arc;
 
-/// A member's guarded wire over UDP that says in a tally how much it lost and dropped, if one is kept. Everything else is as with the wire below.
+/// A member's guarded wire over UDP that says in a tally how much it lost and dropped, if one is kept. Everything else is as with the wire below, and contracts see that.
 #[derive(Drop)]
 pub struct CountedWire {
     wire: Guard<UdpWire>,
@@ -21,10 +22,19 @@ pub struct CountedWire {
     dropped: Dropped,
 }
 
+impl Model for CountedWire {
+    ghost use Rattle.srm_udp.specs.Udp.{UdpView};
+    ghost use Rattle.srm_guard.specs.Guards.{GuardView};
+
+    ghost Value = { GuardView UdpView };
+
+    ghost view = { λ w. w.wire };
+}
+
 impl CountedWire {
     /// Returns a wire over this one that tells this tally.
     pub fn new(wire: Guard<UdpWire>, tally: Option<Arc<Tally, Global>>) -> CountedWire
-        ensures { result.wire ≡ wire }
+        ensures { result ≡ wire }
     {
         CountedWire {
             wire,
@@ -36,7 +46,7 @@ impl CountedWire {
 
     // Tells the tally what changed.
     fn tell(&mut self)
-        ensures { self.new.wire ≡ self.old.wire }
+        ensures { self.new ≡ self.old }
     {
         let lost = self.wire.wire().losses();
         let dropped = Dropped::of(self.wire.wire().dropped(), self.wire.dropped());
@@ -53,18 +63,18 @@ impl CountedWire {
 }
 
 impl Wire for CountedWire {
-    ghost use Rattle.std.specs.Prelude.{◌≡◌, None};
-    ghost use Rattle.srm_guarded.specs.Guarding.{GuardedReceives, GuardedSends, guarded_failures};
+    ghost use Rattle.std.specs.Prelude.{None};
+    ghost use Rattle.srm_guarded.specs.Guarding.{GuardedPauses, GuardedReceives, GuardedSends, guarded_failures};
 
-    ghost failure_count = { λ w. guarded_failures w.wire };
+    ghost failure_count = { guarded_failures };
 
     ghost told = { λ w. None };
 
-    ghost sends = { λ w sent failed h. GuardedSends w.wire sent failed h.wire };
+    ghost sends = { λ w sent failed h. GuardedSends w sent failed h };
 
-    ghost receives = { λ w room answer h. GuardedReceives w.wire room answer h.wire };
+    ghost receives = { λ w room answer h. GuardedReceives w room answer h };
 
-    ghost pauses = { λ w micros h. h.wire ≡ w.wire };
+    ghost pauses = { λ w micros h. GuardedPauses w micros h };
 
     fn send(&mut self, to: Member, datagram: &[u8]) -> Result<(), WireFault> {
         let sent = self.wire.send(to, datagram);

@@ -1,22 +1,36 @@
 //! What the threads of a live member share: where it prints, what it counts, and what befell it.
 
-ghost use Rattle.std.specs.Prelude.{◌≡◌, ◌≤◌};
+ghost use Rattle.std.specs.Prelude.{◌≡◌, ◌≤◌, string_bytes, OnOk};
+ghost use Rattle.std.specs.Io.KnownBytes.{Appends};
 ghost use Rattle.srm_live.specs.declared.live_fault.TheConstants.{WAS_BEFORE};
 ghost use Rattle.srm_live.specs.LiveStatuses.{status_of_live};
 
 use crate::error_stream::ErrorStream;
 use crate::live_fault::LiveFault;
-use crate::readable::readable;
 use crate::tally::Tally;
 use srm_agent::Config;
 use srm_member::MemberFault;
-use srm_names::PageMsg;
-use srm_script::{PrintedGone, PrintedTake, ScriptFault};
+use srm_script::{PrintedGone, ScriptFault};
 use std::alloc::{AllocError, Global};
 use std::io;
 use std::io::{IsTerminal, Write};
+use std::marker::Model;
 use std::sync::atomic::{AtomicBool, Ordering};
 use std::sync::{Arc, Mutex, Wait};
+
+/// A line that was passed to a desk, which prints it. Contracts see its bytes.
+#[derive(Drop)]
+pub struct Passed {
+    line: String,
+}
+
+impl Model for Passed {
+    ghost use Rattle.std.specs.Prelude.{ℕ, List, string_bytes};
+
+    ghost Value = { List ℕ };
+
+    ghost view = { λ p. string_bytes p.line };
+}
 
 /// The streams that a live member prints to, what it counts, and what befell it so far.
 #[derive(Drop)]
@@ -55,43 +69,27 @@ impl<O: Write, E: Write> Desk<O, E> {
         }
     }
 
-    /// Prints at once what the worker of a slot took, unless an earlier line couldn't be printed.
-    pub fn print_taken<R: Wait>(&self, rt: &R, slot: u8, message: &PageMsg) {
-        match self.line_of(slot, message) {
-            Ok(line) => self.print(rt, line.as_str()),
-            Err(_) => self.note(&ScriptFault::Memory),
-        }
-    }
-
-    // The line that the worker of a slot took a message, with its end.
-    fn line_of(&self, slot: u8, message: &PageMsg) -> Result<String, AllocError> {
-        let PageMsg::Draw(drawop) = message else {
-            let take = PrintedTake {
-                member: self.config.me(),
-                slot: usize::from(slot),
-                message: Some(message),
-            };
-            return format!(in self.alloc; "{take}\n");
-        };
-        let me = self.config.me().number();
-        let source = drawop.name.source().number();
-        let number = drawop.name.number();
-        let body = readable(self.alloc, &drawop.body)?;
-        format!(in self.alloc; "took {me} {slot} draw {source} {number} {body}\n")
-    }
-
     /// Prints that the member is gone, unless an earlier line couldn't be printed.
     pub fn print_gone<R: Wait>(&self, rt: &R) {
         match format!(in self.alloc; "{}\n", PrintedGone(self.config.me())) {
-            Ok(line) => self.print(rt, line.as_str()),
+            Ok(line) => {
+                self.print_line(rt, line);
+            }
             Err(_) => self.note(&ScriptFault::Memory),
         }
     }
 
-    fn print<R: Wait>(&self, rt: &R, line: &str) {
-        if self.is_closed() {
-            return;
+    /// Prints a line, which has its line end, at once and whole, unless an earlier one couldn't be printed. Nobody else makes a [`Passed`].
+    pub fn print_line<R: Wait>(&self, rt: &R, line: String) -> Passed
+        ensures { result ≡ string_bytes line }
+    {
+        if !self.is_closed() {
+            self.put_line(rt, line.as_str());
         }
+        Passed { line }
+    }
+
+    fn put_line<R: Wait>(&self, rt: &R, line: &str) {
         let mut out = self.out.lock(rt);
         if put(&mut *out, line).is_err() {
             self.note(&ScriptFault::Output);
@@ -217,7 +215,9 @@ fn make_tally(alloc: Global) -> Option<Arc<Tally, Global>> {
     Arc::new(alloc, Tally::new(alloc).ok()?).ok()
 }
 
-fn put<O: Write>(out: &mut O, line: &str) -> io::Result<()> {
+fn put<O: Write>(out: &mut O, line: &str) -> io::Result<()>
+    ensures { OnOk result (Appends (O.contents out.old) (O.contents out.new) line.now) }
+{
     out.write_all(line.as_bytes())?;
     out.flush()
 }

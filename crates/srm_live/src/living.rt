@@ -1,11 +1,18 @@
 //! A live member: it draws what is typed, and prints what its page workers take as they do.
 
-ghost use Rattle.std.specs.Prelude.{◌≡◌, ◌≤◌, vec_len, IfOk};
+ghost use Rattle.std.specs.Prelude.{◌≡◌, ◌≤◌, None, vec_len, IfOk};
 ghost use Rattle.srm_names.specs.declared.limits.TheConstants.{PAGES};
+ghost use Rattle.srm_node.specs.Calls.{calls_of};
+ghost use Rattle.srm_udp.specs.Clocks.{NeverFalls};
+ghost use Rattle.srm_udp.specs.Resting.{new_rested};
 ghost use Rattle.srm_guarded.specs.Guarding.{guarded_wire};
-ghost use Rattle.srm_member.specs.Stations.{HasNewEnds};
+ghost use Rattle.srm_member.specs.Stations.{HasNewEnds, IsNewStation};
+ghost use Rattle.srm_script.specs.declared.fault.ScriptFault.TheVariants.{Memory};
+ghost use Rattle.srm_member.specs.declared.fault.MemberFault.TheVariants.{Script};
+ghost use Rattle.srm_live.specs.declared.live_fault.LiveFault.TheVariants.{Member};
 ghost use Rattle.srm_live.specs.declared.live_fault.TheConstants.{WAS_BEFORE};
-ghost use Rattle.srm_live.specs.LiveStatuses.{IsLiveStatus};
+ghost use Rattle.srm_live.specs.LiveMembers.{LivesFrom, LivesWith, LivesWhole};
+ghost use Rattle.srm_live.specs.LiveStatuses.{IsLiveStatus, IsWholeEnd, IsWholeStatus, status_of_live};
 
 use crate::counted_wire::CountedWire;
 use crate::desk::Desk;
@@ -22,13 +29,17 @@ use crate::shown_pages::ShownPages;
 use crate::telling::start_telling;
 use crate::unfinished::tell_unfinished;
 use crate::watched::Watched;
+use srm_agent::Entry;
 use srm_guard::Key;
 use srm_guarded::{Guarded, Published, bind_guarded, read_key};
 use srm_member::{MemberFault, Noting, Station, beginning_of, open_record, told_with};
+use srm_node::PageSink;
 use srm_options::NodeOptions;
 use srm_record::Written;
 use srm_script::ScriptFault;
 use srm_udp::{Losses, Rested};
+use srm_wire::Wire;
+use srm_world::Past;
 use std::alloc::{AllocError, Global};
 use std::fs::OpenFile;
 use std::io::{IsTerminal, Read, Write};
@@ -57,6 +68,7 @@ use std::{mem, time};
 /// Returns the program's status: 0; 1 if the key file can't be used, a stream fails, or the record can't be made or written whole; 3 if the socket or the clock fails; 4 if memory ran out, a worker's too, or
 /// all turns were spent; [`WAS_BEFORE`](crate::WAS_BEFORE), 5, if all went well but the member was in the session before. Neither a line that is too long nor a long
 /// input is a fault. All threads that it started have ended then.
+#[tactic(auto, using(crate::proofs::LiveMembers::never_whole))]
 pub fn run_live<R, I, O, E>(rt: &R, options: NodeOptions, reader: I, out: O, err: E) -> u8
 where
     R: Net + Files + time::Clock + Threads + Wait + AllocGlobal + Copy + Send + Drop + 'static,
@@ -65,6 +77,7 @@ where
     E: Write + IsTerminal + Send + Drop + 'static,
     ensures ends { IsLiveStatus result }
     ensures greatest { result ≤ WAS_BEFORE }
+    ensures whole { IsWholeStatus result → LivesWhole options (I.remaining reader) }
 {
     let alloc = rt.alloc();
     match Arc::new(alloc, Desk::new(alloc, options.config, out, err)) {
@@ -74,6 +87,7 @@ where
 }
 
 // Runs the member at a desk, and returns its status.
+#[tactic(auto, using(crate::proofs::LiveMembers::lives_whole, crate::proofs::LiveMembers::whole_by_status, crate::proofs::LiveMembers::never_whole))]
 fn run_at<R, I, O, E>(
     rt: &R,
     alloc: Global,
@@ -88,30 +102,33 @@ where
     E: Write + Send + Drop + 'static,
     ensures ends { IsLiveStatus result }
     ensures greatest { result ≤ WAS_BEFORE }
+    ensures whole { IsWholeStatus result → LivesWhole options (I.remaining reader) }
 {
-    let run = match printing_sinks(rt, alloc, desk) {
-        Ok(sinks) => run_printing(rt, alloc, options, reader, sinks, desk),
-        Err(_) => Some(out_of_memory()),
+    let Ok(sinks) = printing_sinks(rt, alloc, options.config.me(), desk) else {
+        return print(rt, desk, &out_of_memory());
     };
-    match run {
+    match run_printing(rt, alloc, options, reader, sinks, desk) {
         Some(fault) => print(rt, desk, &fault),
         None => 0,
     }
 }
 
-fn out_of_memory() -> LiveFault {
+fn out_of_memory() -> LiveFault
+    ensures { result ≡ Member (Script Memory) }
+{
     LiveFault::Member(MemberFault::Script(ScriptFault::Memory))
 }
 
 // Tells why the member isn't run, or not to its end.
 fn print<R: Wait, O: Write, E: Write>(rt: &R, desk: &Desk<O, E>, fault: &LiveFault) -> u8
-    ensures ends { IsLiveStatus result }
+    ensures status { result ≡ status_of_live fault.now }
     ensures greatest { result ≤ WAS_BEFORE }
 {
     desk.print_fault(rt, fault)
 }
 
 // Runs the member over its own address, with a sink for each slot. Why it wasn't run to its end, if it wasn't.
+#[tactic(auto, using(crate::proofs::LiveMembers::lives_with, crate::proofs::LiveMembers::not_whole))]
 fn run_printing<R, I, O, E>(
     rt: &R,
     alloc: Global,
@@ -126,6 +143,7 @@ where
     O: Write + Send + Drop + 'static,
     E: Write + Send + Drop + 'static,
     requires { vec_len sinks ≡ PAGES }
+    ensures { IsWholeEnd result → LivesWith options (I.remaining reader) sinks.items }
 {
     let turns = options.turns;
     let Ok(staying) = staying_of(alloc, &options) else {
@@ -143,31 +161,35 @@ where
         Ok((station, noting)) => run_bound(
             rt, alloc, station, noting, reader, sinks, staying, turns, desk,
         ),
-        Err(fault) => Some(fault),
+        Err(fault) => Some(LiveFault::Member(fault)),
     }
 }
 
 // Runs a member that is bound, whose node is asked for pages. Why it wasn't run to its end, if it wasn't.
-#[tactic(auto, using(crate::proofs::LiveRuns::control_is))]
-fn run_bound<R, F, I, O, E>(
+#[tactic(auto, using(crate::proofs::LiveRuns::control_is, crate::proofs::LiveMembers::lives_from, crate::proofs::LiveMembers::not_whole))]
+fn run_bound<R, X, F, P, S, I, O, E>(
     rt: &R,
     alloc: Global,
-    station: Station<R, Rested<R, CountedWire>, Written<F, Published<Needed<Watched>>>>,
+    station: Station<R, X, Written<F, P>>,
     noting: Noting,
     reader: I,
-    sinks: Vec<Printing<R, O, E>>,
+    sinks: Vec<S>,
     staying: Staying,
     turns: u64,
     desk: &Arc<Desk<O, E>, Global>,
 ) -> Option<LiveFault>
 where
     R: time::Clock + Threads + Wait + Copy + Send + Drop + 'static,
+    X: Wire + Drop,
     F: Write + OpenFile + Drop,
+    P: Past<Entry> + Drop,
+    S: PageSink + Send + Drop + 'static,
     I: Read + Send + Drop + 'static,
     O: Write + Send + Drop + 'static,
     E: Write + Send + Drop + 'static,
     requires new { HasNewEnds station.node.view station.taps.items station.pens.items }
     requires sinks { vec_len sinks ≡ PAGES }
+    ensures { IsWholeEnd result → LivesFrom (calls_of NeverFalls X.receives X.sends X.pauses) S.sees turns (I.remaining reader) station.node.view sinks.items }
 {
     let mut station = station;
     let Ok(control) = station.node.control(alloc) else {
@@ -247,15 +269,14 @@ fn bind<R, F, O, E>(
         Station<R, Rested<R, CountedWire>, Written<F, Published<Needed<Watched>>>>,
         Noting,
     ),
-    LiveFault,
+    MemberFault,
 >
 where
     R: Net + time::Clock + Copy + Drop,
     F: Write + Drop,
     O: Write,
     E: Write,
-    ensures new { IfOk result (λ b. HasNewEnds b.0.node.view b.0.taps.items b.0.pens.items) }
-    ensures guarded { IfOk result (λ b. b.0.node.view.wire.wire.wire ≡ guarded_wire options.addresses.items options.guard key) }
+    ensures { IfOk result (λ b. IsNewStation options.config 0 None (new_rested (guarded_wire options.addresses.items options.guard key)) b.0.node.view b.0.taps.items b.0.pens.items) }
 {
     let beginning = beginning_of(rt, &options);
     let mut options = options;
@@ -263,7 +284,7 @@ where
     let addresses = mem::replace(&mut options.addresses, Vec::new(alloc));
     let me = options.config.me();
     let Some(own) = addresses.get(me.index()).copied() else {
-        return Err(LiveFault::Member(MemberFault::Wire));
+        return Err(MemberFault::Wire);
     };
     match bind_guarded(rt, alloc, options.config, &options.guard, key, addresses) {
         Ok(
@@ -282,22 +303,25 @@ where
             let past = Written::new(alloc, record, beginning, past);
             match Station::with_past(rt, alloc, &options, wire, waker, past) {
                 Ok(station) => Ok((station, failure)),
-                Err(fault) => Err(LiveFault::Member(fault)),
+                Err(fault) => Err(fault),
             }
         }
-        Err(error) => Err(LiveFault::Member(MemberFault::of_bind(own, error))),
+        Err(error) => Err(MemberFault::of_bind(own, error)),
     }
 }
 
 // Prints the end of a whole run. Why it was none, by why the node's run wasn't and what befell the streams, and whether the member was in the session before. A wire that
 // failed is told with the call that failed.
+#[tactic(auto, using(crate::proofs::LiveMembers::whole_end))]
 fn end<R: Wait, O: Write, E: Write>(
     rt: &R,
     run: Option<MemberFault>,
     noting: &Noting,
     was_before: bool,
     desk: &Desk<O, E>,
-) -> Option<LiveFault> {
+) -> Option<LiveFault>
+    ensures { IsWholeEnd result → run ≡ None }
+{
     if run.is_none() {
         desk.print_gone(rt);
     }

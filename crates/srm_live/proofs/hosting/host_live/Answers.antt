@@ -1,7 +1,6 @@
-use Rattle.std.proofs.Common.{◌≡◌, ◌∷◌, refl, sym, ◌∙◌, subst}
+use Rattle.std.proofs.Common.{◌∷◌, refl, sym, ◌∙◌}
 use Rattle.srm_node.specs.Calls.{calls_of}
 use Rattle.srm_node.specs.Hosting.{kinds_of}
-use Rattle.srm_control.specs.Ends.{ControlView}
 use Rattle.srm_udp.specs.Clocks.{NeverFalls}
 use Rattle.srm_live.specs.LiveRuns.{HaveTyped}
 use Rattle.srm_live.proofs.LiveRuns.{lanes_if, typed_all, typed_as, if_some, some_is, live_pens, live_lines, live_run}

@@ -1,4 +1,4 @@
-use Rattle.std.proofs.Common.{ap, ◌∙◌, ◌≡◌, ◌∷◌, ◌++◌, [], not, rules}
+use Rattle.std.proofs.Common.{◌≡◌, not, rules}
 use Rattle.std.specs.Prelude.{filter}
 use Rattle.std.proofs.lemmas.Fn.{filter_same}
 use Rattle.srm_names.specs.FullName.{FullName}

@@ -1,0 +1,86 @@
+-- A live member's run by its options, put together from what its parts tell.
+use Rattle.std.proofs.Common.{◌≡◌, ℕ, Bool, List, length, All, refl, sym, ◌∙◌, subst, inl, inr, arith}
+use Rattle.std.specs.Prelude.{Option, Some, None, is_some}
+use Rattle.srm_names.specs.declared.limits.TheConstants.{PAGES}
+use Rattle.srm_names.specs.declared.page_msg.PageMsg.{PageMsg}
+use Rattle.srm_pages.specs.Ends.{TapView, PenView}
+use Rattle.srm_control.specs.Ends.{ControlView, new_commands}
+use Rattle.srm_udp.specs.Resting.{new_rested}
+use Rattle.srm_guarded.specs.Guarding.{guarded_wire}
+use Rattle.srm_options.specs.declared.node_options.NodeOptions.{NodeOptions}
+use Rattle.srm_node.specs.Calls.{Calls}
+use Rattle.srm_node.specs.Nodes.{NodeState}
+use Rattle.srm_script.specs.declared.fault.ScriptFault.{ScriptFault}
+use Rattle.srm_script.specs.declared.fault.ScriptFault.TheVariants.{StandardInput, TooLong, BadLine, Output, Memory}
+use Rattle.srm_member.specs.declared.fault.MemberFault.{MemberFault}
+use Rattle.srm_member.specs.declared.fault.MemberFault.TheVariants.{Script}
+use Rattle.srm_member.specs.Statuses.{IsToldOf, fault_of_live, fault_with_call, status_of_member}
+use Rattle.srm_member.proofs.MemberRuns.{status_of_some, status_of_most}
+use Rattle.srm_member.specs.MemberRuns.{member_calls}
+use Rattle.srm_member.specs.Stations.{IsNewStation}
+use Rattle.srm_member.specs.WholeRuns.{SawEach}
+use Rattle.srm_live.specs.declared.live_fault.LiveFault.{LiveFault}
+use Rattle.srm_live.specs.declared.live_fault.LiveFault.TheVariants.{Member, WasBefore}
+use Rattle.srm_live.specs.LiveStatuses.{IsWholeEnd, IsWholeStatus, fault_of_end, status_of_live}
+use Rattle.srm_live.specs.LiveLines.{PrintingView, PrintsLine, new_printing}
+use Rattle.srm_live.specs.LiveRuns.{IsWholeLiveRun}
+use Rattle.srm_live.specs.LiveMembers.{MemberNode, LivesFrom, LivesWith, LivesWhole}
+
+-- a fault has a status by itself
+pub never_whole : (f : MemberFault) (status : ℕ) (P : Type 0) → status ≡ status_of_live (Member f) → IsWholeStatus status → P
+never_whole f status P is (inl none) = let own : status ≡ status_of_member f = is in absurd (omega (arith, status_of_some f, own, none))
+never_whole f status P is (inr before) = let own : status ≡ status_of_member f = is in let five : status ≡ 5 = before in absurd (omega (arith, status_of_most f, own, five))
+
+-- so who ends with the status of a whole run had one
+pub whole_by_status : (f : LiveFault) (end : Option LiveFault) (status : ℕ) (P : Type 0) → end ≡ Some f → status ≡ status_of_live f → (IsWholeEnd end → P) → IsWholeStatus status → P
+whole_by_status (Member f) end status P here is whole which = never_whole f status P is which
+whole_by_status WasBefore end status P here is whole which = whole (inr here)
+
+-- and no run was whole that ended with one of a member that isn't live
+pub not_whole : (f : MemberFault) (end : Option LiveFault) (P : Type 0) → end ≡ Some (Member f) → IsWholeEnd end → P
+not_whole f end P is (inl none) = let k : Some (Member f) ≡ None = sym is ∙ none in cc
+not_whole f end P is (inr before) = let k : Some (Member f) ≡ Some WasBefore = sym is ∙ before in cc
+
+-- what ended a run that ends well: nothing did
+live_none : (run : Option MemberFault) (noted : Option ScriptFault) → fault_of_live run noted ≡ None → run ≡ None
+live_none None noted e = refl
+live_none (Some f) None e = let k : Some f ≡ None = e in cc
+live_none (Some f) (Some StandardInput) e = let k : Some f ≡ None = e in cc
+live_none (Some f) (Some TooLong) e = let k : Some f ≡ None = e in cc
+live_none (Some f) (Some (BadLine number)) e = let k : Some f ≡ None = e in cc
+live_none (Some f) (Some Output) e = let k : Some f ≡ None = e in cc
+live_none (Some f) (Some Memory) e = let k : Some (Script Memory) ≡ None = e in cc
+
+end_none : (run : Option MemberFault) (was_before : Bool) → IsWholeEnd (fault_of_end run was_before) → run ≡ None
+end_none None was_before whole = refl
+end_none (Some f) was_before (inl none) = let k : Some (Member f) ≡ None = none in cc
+end_none (Some f) was_before (inr before) = let k : Some (Member f) ≡ Some WasBefore = before in cc
+
+pub told_none : (run told : Option MemberFault) → IsToldOf run told → told ≡ None → run ≡ None
+told_none None told of none = refl
+told_none (Some f) told (call, of) none = let k : Some (fault_with_call call f) ≡ None = sym of ∙ none in cc
+
+pub whole_end : (run told : Option MemberFault) (noted : Option ScriptFault) (was_before : Bool) (result : Option LiveFault) → IsToldOf run told → result ≡ fault_of_end (fault_of_live told noted) was_before → IsWholeEnd result → run ≡ None
+whole_end run told noted was_before result of is whole = told_none run told of (live_none told noted (end_none (fault_of_live told noted) was_before (subst IsWholeEnd is whole)))
+
+-- the node that ran is the one that got a control
+pub lives_from : {W X C S : Type 0} (calls : Calls X C) (Sees : S → ℕ → PageMsg → Bool → S → Type 0) (turns : ℕ) (known : Option (List ℕ)) (old new : NodeState W X C) (control : ControlView) (sinks : List S)
+    → new ≡ record old { view = record old.view { control = Some (new_commands control.out control.back) } }
+    → ((took : List (List PageMsg)) × IsWholeLiveRun calls turns known new.view took × SawEach Sees sinks took)
+    → LivesFrom calls Sees turns known old.view sinks
+lives_from {W} {X} {C} calls Sees turns known old new control sinks is (took, whole, saw) = record {
+  commands = new_commands control.out control.back;
+  fresh = refl;
+  took = took;
+  whole = subst (λ (n : NodeState W X C). IsWholeLiveRun calls turns known n.view took) is whole;
+  saw = saw;
+}
+
+-- and it was that of a new station
+pub lives_with : (options : NodeOptions) (known : Option (List ℕ)) (sinks : List PrintingView) (key : Option (List ℕ)) (node : MemberNode) (taps : List TapView) (pens : List PenView)
+    → is_some key ≡ is_some options.guard.key → IsNewStation options.config 0 None (new_rested (guarded_wire options.addresses.items options.guard key)) node taps pens → LivesFrom member_calls PrintsLine options.turns known node sinks
+    → LivesWith options known sinks
+lives_with options known sinks key node taps pens keyed new lives = record { key = key; keyed = keyed; node = node; taps = taps; pens = pens; new = new; lives = lives }
+
+pub lives_whole : (options : NodeOptions) (known : Option (List ℕ)) (sinks : List PrintingView) → length sinks ≡ PAGES → All (λ (s : PrintingView). s ≡ new_printing options.config.me) sinks → LivesWith options known sinks → LivesWhole options known
+lives_whole options known sinks count new with_these = record { sinks = sinks; count = count; new = new; with_these = with_these }

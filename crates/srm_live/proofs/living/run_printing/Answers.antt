@@ -1,0 +1,15 @@
+use denote.Param.Send.{sendable}
+use Rattle.srm_live.proofs.LiveMembers.{lives_with}
+use Rattle.srm_live.proofs.Sent.{printing_send}
+use Rattle.srm_live.proofs.living.run_printing.Goals as goal
+
+pub run_bound-requires-send-S : goal.run_bound-requires-send-S
+run_bound-requires-send-S g c κs within =
+    let r = c.type_bounds.send-R in
+    let o = c.type_bounds.send-O in
+    let e = c.type_bounds.send-E in
+    search (sendable, printing_send) depth 40 fits 20000
+
+pub returns-in-Ok-bind : goal.returns-in-Ok-bind
+returns-in-Ok-bind g c = λ whole.
+    lives_with c.args.options (g.I.Read.remaining c.args.reader) c.args.sinks.items c.in-Ok-read_key.key c.in-Ok-bind.station.node.view c.in-Ok-bind.station.taps.items c.in-Ok-bind.station.pens.items c.in-Ok-read_key.ensures c.in-Ok-bind.ensures (c.run_bound.ensures whole)
