@@ -5,7 +5,10 @@ use Rattle.std.specs.declared.net.socket_addr.SocketAddr.{SocketAddr}
 use Rattle.srm_names.specs.Names.{first_page}
 use Rattle.srm_pages.specs.Ends.{PenView}
 use Rattle.srm_script.specs.declared.fault.ScriptFault.TheVariants.{Memory}
+use Rattle.srm_control.specs.Ends.{CommandsView, new_commands}
 use Rattle.srm_member.specs.declared.fault.MemberFault.TheVariants.{Script, Wire, Turns}
+use Rattle.srm_live.specs.LiveMembers.{MemberNode}
+use Rattle.srm_board.specs.BoardRuns.{MayHaveControl}
 use Rattle.srm_slate.specs.declared.easel.Drawn.TheVariants.{Taken, Full, Over}
 use Rattle.srm_board.specs.declared.board_fault.BoardFault.TheVariants.{Member, Serving}
 use Rattle.srm_board.specs.BoardStatuses.{fault_of_serve, out_of_memory, status_of_board}
@@ -38,3 +41,9 @@ who_leaves_draws_no_more pen = (refl, refl)
 
 nor_does_who_left : InkDraws first_page [] Over (record { pen = None; is_leaving = false }) (record { pen = None; is_leaving = false })
 nor_does_who_left = (refl, refl)
+
+it_may_have_a_control : (node : MemberNode) (control : CommandsView) → MayHaveControl node (record node { control = Some (new_commands control.out control.back) })
+it_may_have_a_control node control = (Some (new_commands control.out control.back), refl, refl)
+
+it_may_have_none : (node : MemberNode) → MayHaveControl node (record node { control = None })
+it_may_have_none node = (None, tt, refl)

@@ -2,7 +2,6 @@
 use Rattle.std.specs.Prelude.{◌≡◌, ℕ, Bool, List, [], ◌∷◌, ◌++◌, Option, Some, None}
 use Rattle.std.specs.Bool.{MatchBool}
 use Rattle.srm_names.specs.declared.page.Page.{Page}
-use Rattle.srm_pages.specs.declared.stroke.Stroke.{Stroke}
 use Rattle.srm_pages.specs.Ends.{PenView}
 use Rattle.srm_slate.specs.declared.easel.Drawn.{Drawn}
 use Rattle.srm_slate.specs.declared.easel.Drawn.TheVariants.{Taken, Full, Over}

@@ -1,8 +1,7 @@
 //! The station of a board's member, at the member's address.
 
-ghost use Rattle.std.specs.Prelude.{◌≡◌, [], IfOk};
-ghost use Rattle.srm_guarded.specs.Guarding.{guarded_wire};
-ghost use Rattle.srm_member.specs.Stations.{HasNewEnds};
+ghost use Rattle.std.specs.Prelude.{◌≡◌, [], None, IfOk};
+ghost use Rattle.srm_board.specs.BoardRuns.{IsBoardStation, MayHaveControl};
 
 use crate::preparing::Shared;
 use crate::turning::Turning;
@@ -41,8 +40,7 @@ pub fn bind<R>(
 >
 where
     R: Net + time::Clock + Wait + Copy + Drop,
-    ensures new { IfOk result (λ b. HasNewEnds b.0.node.view b.0.taps.items b.0.pens.items) }
-    ensures guarded { IfOk result (λ b. b.0.node.view.wire.wire.wire ≡ guarded_wire options.addresses.items options.guard key) }
+    ensures { IfOk result (λ b. IsBoardStation options key b.0.node.view b.0.taps.items b.0.pens.items) }
 {
     match watch(rt, alloc, shared) {
         Ok(watching) => bind_watched(rt, alloc, options, key, shared, watching),
@@ -64,6 +62,7 @@ fn watch<R: Wait + Copy + Drop>(
     Ok(Watching::new(*rt, alloc, slate, turning, tally))
 }
 
+#[tactic(auto, using(crate::proofs::BoardRuns::no_control, crate::proofs::BoardRuns::board_station))]
 fn bind_watched<R>(
     rt: &R,
     alloc: Global,
@@ -81,8 +80,7 @@ fn bind_watched<R>(
 where
     R: Net + time::Clock + Wait + Copy + Drop,
     requires { watching.past ≡ [] }
-    ensures new { IfOk result (λ b. HasNewEnds b.0.node.view b.0.taps.items b.0.pens.items) }
-    ensures guarded { IfOk result (λ b. b.0.node.view.wire.wire.wire ≡ guarded_wire options.addresses.items options.guard key) }
+    ensures { IfOk result (λ b. IsBoardStation options key b.0.node.view b.0.taps.items b.0.pens.items) }
 {
     let mut options = options;
     options.stay = 0;
@@ -124,9 +122,10 @@ where
     R: time::Clock + Wait + Copy + Drop,
     X: Wire + Drop,
     P: Past<Entry> + Drop,
-    requires { HasNewEnds station.node.view station.taps.items station.pens.items }
-    ensures new { HasNewEnds result.node.view result.taps.items result.pens.items }
-    ensures wire { result.node.view.wire ≡ station.node.view.wire }
+    requires { station.node.view.control ≡ None }
+    ensures node { MayHaveControl station.node.view result.node.view }
+    ensures taps { result.taps.items ≡ station.taps.items }
+    ensures pens { result.pens.items ≡ station.pens.items }
 {
     let mut station = station;
     let Ok(control) = station.node.control(alloc) else {

@@ -1,9 +1,14 @@
 //! A board from its options to its end.
 
-ghost use Rattle.std.specs.Prelude.{◌≡◌, ◌≤◌, vec_len};
+ghost use Rattle.std.specs.Prelude.{◌≡◌, ◌≤◌, List, None, vec_len};
 ghost use Rattle.srm_names.specs.declared.limits.TheConstants.{PAGES};
+ghost use Rattle.srm_names.specs.declared.page_msg.PageMsg.{PageMsg as AMessage};
 ghost use Rattle.srm_script.specs.declared.status.TheConstants.{RAN_OUT};
+ghost use Rattle.srm_node.specs.Calls.{calls_of};
+ghost use Rattle.srm_udp.specs.Clocks.{NeverFalls};
 ghost use Rattle.srm_member.specs.Stations.{HasNewEnds};
+ghost use Rattle.srm_member.specs.WholeRuns.{IsWholeHost};
+ghost use Rattle.srm_board.specs.BoardRuns.{IsWholeBoardRun, RunsWithKey};
 ghost use Rattle.srm_board.specs.BoardStatuses.{IsBoardStatus};
 
 use crate::binding::bind;
@@ -37,7 +42,9 @@ use std::time;
 /// `err` gets the address of the page once, then at the end what the network refused and what was dropped, by cause, and a fault if there was one.
 ///
 /// Returns the program's status: 0; 1 if the key file can't be used; 3 if the board can't be served at its address, the member's address can't be bound, or the socket
-/// or the clock fails, with the call that failed; 4 if memory ran out, a worker's too, or all turns were spent. All threads that it started have ended then.
+/// or the clock fails, with the call that failed; 4 if memory ran out, a worker's too, or all turns were spent. All threads that it started have ended then. At status 0 the
+/// member's node ran to its end over the wire of these options, and each page worker took all that its journal gave.
+#[tactic(auto, using(crate::proofs::BoardRuns::never_0))]
 pub fn run_board<R, I, E: Write>(rt: &R, options: BoardOptions, input: Option<I>, err: &mut E) -> u8
 where
     R: Net<Listener = TcpListener, Stream = TcpStream>
@@ -54,6 +61,7 @@ where
     I: Read + Send + Drop + 'static,
     ensures ends { IsBoardStatus result }
     ensures greatest { result ≤ RAN_OUT }
+    ensures whole { result ≡ 0 → IsWholeBoardRun options.node }
 {
     let alloc = rt.alloc();
     let place = Place {
@@ -87,6 +95,7 @@ where
         + Drop
         + 'static,
     I: Read + Send + Drop + 'static,
+    ensures { result ≡ None → IsWholeBoardRun options }
 {
     let key = match read_key(rt, alloc, &options.guard) {
         Ok(key) => key,
@@ -112,6 +121,7 @@ where
     R: Net + RandomSource + time::Clock + Threads + Wait + Copy + Send + Drop + 'static,
     I: Read + Send + Drop + 'static,
     requires { vec_len prepared.sinks ≡ PAGES }
+    ensures { result ≡ None → RunsWithKey options key }
 {
     let turns = options.turns;
     let linger = linger_of(&options);
@@ -142,6 +152,7 @@ where
     I: Read + Send + Drop + 'static,
     requires new { HasNewEnds station.node.view station.taps.items station.pens.items }
     requires sinks { vec_len prepared.sinks ≡ PAGES }
+    ensures { result ≡ None → ((took : List (List AMessage)) × IsWholeHost (calls_of NeverFalls X.receives X.sends X.pauses) turns station.node.view took) }
 {
     let Prepared {
         endpoint,
@@ -174,7 +185,9 @@ fn staying_for(linger: u64, need: Arc<Need, Global>) -> Staying {
     }
 }
 
-fn member_fault(fault: Option<MemberFault>) -> Option<BoardFault> {
+fn member_fault(fault: Option<MemberFault>) -> Option<BoardFault>
+    ensures { result ≡ None → fault ≡ None }
+{
     match fault {
         Some(fault) => Some(BoardFault::Member(fault)),
         None => None,

@@ -1,17 +1,20 @@
 //! The node of a board's member, its page workers, and the threads that serve the board.
 
-ghost use Rattle.std.specs.Prelude.{◌≡◌, None, vec_len};
-ghost use Rattle.std.specs.List.{list_any};
+ghost use Rattle.std.specs.Prelude.{◌≡◌, List, None, map, vec_len, IfOk};
+ghost use Rattle.std.specs.List.{list_all, list_any};
 ghost use Rattle.srm_names.specs.declared.limits.TheConstants.{PAGES};
+ghost use Rattle.srm_names.specs.declared.page_msg.PageMsg.{PageMsg as AMessage};
 ghost use Rattle.srm_node.specs.Calls.{calls_of};
+ghost use Rattle.srm_node.specs.Hosting.{AreEndsOfLanes};
 ghost use Rattle.srm_udp.specs.Clocks.{NeverFalls};
 ghost use Rattle.srm_member.specs.Stations.{HasNewEnds};
-ghost use Rattle.srm_member.specs.Statuses.{fault_of, lacks_memory};
-ghost use Rattle.srm_board.specs.BoardRuns.{IsWholeBoardRun};
+ghost use Rattle.srm_member.specs.Statuses.{fault_of, fault_of_lists, lacks_memory};
+ghost use Rattle.srm_member.specs.TakenText.{has_close};
+ghost use Rattle.srm_member.specs.WholeRuns.{IsWholeHost, TakePrefixes};
 
 use crate::serving::{Ink, Opening, Serving, start_serving};
 use srm_agent::Entry;
-use srm_member::{MemberFault, Station, host_if};
+use srm_member::{MemberFault, Station, host_if, settle_lanes};
 use srm_names::PageMsg;
 use srm_node::{Hosted, PageSink};
 use srm_script::ScriptFault;
@@ -29,7 +32,7 @@ use std::time;
 /// Runs the node in this thread, and its page workers and the server of its board in threads beside it, until all have ended. `err` gets the address of the page once it
 /// is served. `turns` is how many turns the node has.
 ///
-/// Returns why the run wasn't whole; `None` if it was. Then the node ran to its end.
+/// Returns why the run wasn't whole; `None` if it was. Then the node ran to its end, and each worker took all that the node's journal gave in its slot.
 pub fn host<R, X, P, S, I, E: Write>(
     rt: &R,
     alloc: Global,
@@ -48,7 +51,7 @@ where
     I: Read + Send + Drop + 'static,
     requires new { HasNewEnds station.node.view station.taps.items station.pens.items }
     requires sinks { vec_len sinks ≡ PAGES }
-    ensures { result ≡ None → IsWholeBoardRun (calls_of NeverFalls X.receives X.sends X.pauses) turns station.node.view }
+    ensures { result ≡ None → ((took : List (List AMessage)) × IsWholeHost (calls_of NeverFalls X.receives X.sends X.pauses) turns station.node.view took) }
 {
     let Station {
         node,
@@ -61,17 +64,30 @@ where
     slate.end(rt);
     join_if(rt, serving);
     match hosted {
-        Some((hosted, _)) => fault_in(hosted),
+        Some((hosted, _)) => settle(hosted),
         None => Some(MemberFault::Script(ScriptFault::Memory)),
     }
 }
 
-// Why the run wasn't whole.
-fn fault_in<P: Past<Entry> + Drop>(hosted: Hosted<P, Vec<PageMsg>>) -> Option<MemberFault>
-    ensures { result ≡ fault_of hosted.end (list_any lacks_memory hosted.worked.items) }
+// Why the run wasn't whole. If it was, both ends of each lane were put together.
+fn settle<P: Past<Entry> + Drop>(hosted: Hosted<P, Vec<PageMsg>>) -> Option<MemberFault>
+    requires { IfOk hosted.end (λ _. AreEndsOfLanes hosted.feeds.items (map (λ w. w.tap) hosted.worked.items)) }
+    ensures fault { result ≡ fault_of_lists (fault_of hosted.end (list_any lacks_memory hosted.worked.items)) (list_all has_close hosted.worked.items) }
+    ensures takes { result ≡ None → TakePrefixes hosted.feeds.items (map (λ w. w.tap) hosted.worked.items) }
 {
-    let Hosted { worked, end, .. } = hosted;
-    MemberFault::of_run(end, worked.as_slice())
+    let Hosted {
+        feeds,
+        worked,
+        end,
+        ..
+    } = hosted;
+    match MemberFault::of_whole_run(end, worked.as_slice()) {
+        Some(fault) => Some(fault),
+        None => {
+            settle_lanes(feeds, worked);
+            None
+        }
+    }
 }
 
 fn join_if<R: Threads>(rt: &R, serving: Option<Serving>) {

@@ -1,0 +1,18 @@
+use Rattle.srm_live.proofs.LiveMembers.{told_none}
+use Rattle.srm_board.proofs.BoardRuns.{board_ends}
+use Rattle.srm_board.proofs.boarding.run_prepared.Goals as goal
+
+pub run_bound-fault-requires-clause-new : goal.run_bound-fault-requires-clause-new
+run_bound-fault-requires-clause-new g c κs within = board_ends c.args.options c.args.key c.in-Ok.station.node.view c.in-Ok.station.taps.items c.in-Ok.station.pens.items c.in-Ok.ensures
+
+pub returns-in-Ok : goal.returns-in-Ok
+returns-in-Ok g c = λ none.
+    let run = c.run_bound-fault.ensures (told_none _ _ c.told_with.ensures.told (c.member_fault.ensures none)) in
+    record {
+      node = c.in-Ok.station.node.view;
+      taps = c.in-Ok.station.taps.items;
+      pens = c.in-Ok.station.pens.items;
+      station = c.in-Ok.ensures;
+      took = run.0;
+      whole = run.1;
+    }
