@@ -7,7 +7,7 @@
 //! };
 //! ```
 //!
-//! `srm_audited` judges; this crate has its words and statuses. [`print_verdict`] prints a verdict alone. [`script_of`] writes an honest run as a script, in the order
+//! `srm_audited` judges; this crate has its words and statuses. [`print_audit`] judges records that were read already. [`print_verdict`] prints a verdict alone. [`script_of`] writes an honest run as a script, in the order
 //! of [`wall_order`], and [`draw_script`] draws it.
 //!
 //! **Errors.** [`AuditFault`] has the text and the status of each. A [`NoScript`] says why an honest run is no script.
@@ -31,6 +31,6 @@ pub use no_script::{LONGEST_SCRIPT, NoScript};
 pub use ordering::{Placed, wall_order};
 pub use printing::print_verdict;
 pub use reading::read_records;
-pub use running::run_audit;
+pub use running::{print_audit, run_audit};
 pub use scripting::script_of;
 pub use status::{NOT_HONEST, UNDECIDED};

@@ -1,7 +1,7 @@
 //! The whole of `srm audit`.
 
-ghost use Rattle.srm_verdicts.specs.AuditStatuses.{IsAuditStatus, IsStatusOf};
 ghost use Rattle.std.specs.Prelude.{IfOk};
+ghost use Rattle.srm_verdicts.specs.AuditStatuses.{IsAuditStatus, IsStatusOf, IsStatusOn};
 
 use crate::drawing::draw_script;
 use crate::fault::AuditFault;
@@ -45,9 +45,24 @@ fn run<R: Files + AllocGlobal, O: Write>(
     ensures { IfOk result IsStatusOf }
 {
     let records = read_records(rt, options.files.as_slice())?;
-    let verdict = audit(alloc, records.as_slice())?;
+    print_audit(alloc, options, records.as_slice(), out)
+}
+
+/// Judges records that were read of the options' files, in their order, and prints to `out` the verdict, or the run as the options ask for it. Returns the status of the
+/// verdict, as [`run_audit`] does.
+///
+/// Fails with [`AuditFault::NoScript`] before it prints if the run is honest and can't be printed as asked, with [`AuditFault::Output`] if `out` does, and if out of memory.
+pub fn print_audit<O: Write>(
+    alloc: Global,
+    options: &AuditOptions<'_>,
+    records: &[Record],
+    out: &mut O,
+) -> Result<u8, AuditFault>
+    ensures { IfOk result (IsStatusOn records.now) }
+{
+    let verdict = audit(alloc, records)?;
     let mut out = BufWriter::new(alloc, out).map_err(AuditFault::of_output)?;
-    print(alloc, options, records.as_slice(), &verdict, &mut out)?;
+    print(alloc, options, records, &verdict, &mut out)?;
     out.flush().map_err(AuditFault::of_output)?;
     Ok(status_of(&verdict))
 }
