@@ -9,6 +9,8 @@ mod alone;
 #[cfg(test)]
 mod backlog;
 #[cfg(test)]
+mod boards;
+#[cfg(test)]
 mod dealing;
 #[cfg(test)]
 mod ends;
