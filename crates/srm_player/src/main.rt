@@ -4,6 +4,9 @@
 //! runs it where nothing is proved yet.
 #![tactic(auto)]
 
+ghost use Rattle.std.specs.Prelude.{◌≡◌};
+ghost use Rattle.srm_script.specs.declared.status.TheConstants.{WRONG_USAGE};
+
 use srm_arguments::{ArgumentFault, read_arguments, texts_of};
 use srm_played::run_picture;
 use srm_script::{Dialect, WRONG_USAGE, print_fault, run_script_in};
@@ -35,7 +38,14 @@ fn play<E: Write>(rt: &HostRuntime, err: &mut E) -> Result<u8, ArgumentFault> {
             run_script_in(alloc, Dialect::Extended, &mut script, &mut out, err)
         }
         ["picture"] => run_picture(alloc, &mut script, &mut out, err),
-        _ => print_fault(&OTHERS, err, WRONG_USAGE),
+        _ => refuse(err),
     };
     Ok(status)
+}
+
+/// Tells that a command line isn't for this program, and returns the status of wrong usage.
+fn refuse<E: Write>(err: &mut E) -> u8
+    ensures { result ≡ WRONG_USAGE }
+{
+    print_fault(&OTHERS, err, WRONG_USAGE)
 }
