@@ -1,4 +1,6 @@
-mod Remainders
+mod Tables
+mod Linear
+mod Fours
 mod ChecksumBounds
 pub mod Elements
 mod FrameLaws

@@ -17,6 +17,10 @@ after_bits (suc n) register = after_bits n (after_bit register)
 abbrev pub remainder_of : ℕ → ℕ
 remainder_of low = after_bits 8 low
 
+-- what a byte leaves once so many bits are divided out: its own eight, and those of zeros behind it
+unfoldable pub remainder_after : ℕ → ℕ → ℕ
+remainder_after bits low = after_bits bits low
+
 -- one byte more
 unfoldable pub after_byte : ℕ → ℕ → ℕ
 after_byte register byte = bit_xor (remainder_of (bit_and (bit_xor register byte) 0xff)) (register / 256)

@@ -25,6 +25,7 @@ mod line;
 mod message;
 mod reader;
 mod reading;
+mod remainders;
 mod spelling;
 
 pub use beginning::{Beginning, beginning_bytes};
@@ -33,4 +34,4 @@ pub use fault::RecordFault;
 pub use frame::put_frame;
 pub use line::{Call, Line};
 pub use reading::{Record, RecordEnd, read_record};
-pub use spelling::{put_line, put_lines};
+pub use spelling::{put_heard, put_line, put_lines};

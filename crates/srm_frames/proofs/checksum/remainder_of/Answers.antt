@@ -1,4 +1,4 @@
-use Rattle.srm_frames.proofs.Remainders.{remainder_at}
+use Rattle.srm_frames.proofs.Tables.{remainder_at}
 use Rattle.srm_frames.proofs.checksum.remainder_of.Goals as goal
 
 pub returns : goal.returns

@@ -1,0 +1,36 @@
+-- The tables have what the definitions compute.
+use Rattle.std.proofs.Common.{◌≡◌, ℕ, ◌<◌, get_or, map, refl, arith, ap, ◌∙◌}
+use Rattle.std.specs.List.{range_with_len}
+use Rattle.std.proofs.lemmas.List.FromFn.{get_or-map-range_with_len}
+use Rattle.srm_frames.specs.declared.remainders.TheConstants.{AFTER_8, AFTER_16, AFTER_24, AFTER_32}
+use Rattle.srm_frames.specs.Checksums.{remainder_of, remainder_after}
+
+each : (f : ℕ → ℕ) (low : ℕ) → low < 256 → get_or (map f (range_with_len 0 256)) low 0 ≡ f low
+each f low lt = get_or-map-range_with_len f 0 256 low low 0 lt (omega arith)
+
+table_8 : AFTER_8 ≡ map remainder_of (range_with_len 0 256)
+table_8 = refl
+
+table_16 : AFTER_16 ≡ map (remainder_after 16) (range_with_len 0 256)
+unfolding remainder_after
+table_16 = refl
+
+table_24 : AFTER_24 ≡ map (remainder_after 24) (range_with_len 0 256)
+unfolding remainder_after
+table_24 = refl
+
+table_32 : AFTER_32 ≡ map (remainder_after 32) (range_with_len 0 256)
+unfolding remainder_after
+table_32 = refl
+
+pub remainder_at : (low : ℕ) → low < 256 → get_or AFTER_8 low 0 ≡ remainder_of low
+remainder_at low lt = ap (λ xs. get_or xs low 0) table_8 ∙ each remainder_of low lt
+
+pub remainder_at_16 : (low : ℕ) → low < 256 → get_or AFTER_16 low 0 ≡ remainder_after 16 low
+remainder_at_16 low lt = ap (λ xs. get_or xs low 0) table_16 ∙ each (remainder_after 16) low lt
+
+pub remainder_at_24 : (low : ℕ) → low < 256 → get_or AFTER_24 low 0 ≡ remainder_after 24 low
+remainder_at_24 low lt = ap (λ xs. get_or xs low 0) table_24 ∙ each (remainder_after 24) low lt
+
+pub remainder_at_32 : (low : ℕ) → low < 256 → get_or AFTER_32 low 0 ≡ remainder_after 32 low
+remainder_at_32 low lt = ap (λ xs. get_or xs low 0) table_32 ∙ each (remainder_after 32) low lt
