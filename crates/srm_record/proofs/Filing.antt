@@ -16,9 +16,10 @@ use Rattle.srm_record.specs.Calls.{line_of, lines_of, last_after, last_recorded}
 use Rattle.srm_frames.specs.Lines.{line_text, lines_text}
 use Rattle.srm_record.specs.Takes.{takes_at, end_at}
 use Rattle.srm_record.specs.Records.{record_text, lines_so_far, record_of, last_of_record, whole_record}
-use Rattle.srm_record.specs.Writing.{AppendsAllBut, AppendsFront, FileView, HasText, HasRecord, Adds, Writes, WritesIf, Notes, NotesIn, IsWritten, sends, text_if, call_text, text_since_sending}
+use Rattle.srm_output.specs.Writing.{AppendsAllBut, AppendsFront}
+use Rattle.srm_record.specs.Writing.{FileView, HasText, HasRecord, Adds, Writes, WritesIf, Notes, NotesIn, IsWritten, sends, text_if, call_text, text_since_sending}
 use Rattle.srm_record.proofs.Snocs.{last_recorded-snoc}
-use Rattle.srm_record.proofs.Gathered.{none_of_all, all_of_all, front_of_none, front_of_some, front_of_more, all_but_on, front_on}
+use Rattle.srm_output.proofs.Gathered.{none_of_all, all_of_all, front_of_none, front_of_some, front_of_more, all_but_on, front_on}
 
 -- all of a text waits at first
 pub starts : (v : FileView) (text : List ℕ) → v.now ≡ v.first → (v.failed ≡ false → v.waiting ≡ text) → HasText v text

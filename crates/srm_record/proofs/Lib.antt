@@ -1,6 +1,5 @@
 mod Snocs
 mod GoingOn
-mod Gathered
 mod Elements
 mod Filing
 mod Recorded

@@ -1,7 +1,7 @@
 -- What a file got of a record, and what waits to be written.
 use Rattle.std.specs.Prelude.{◌≡◌, ℕ, ◌+◌, ◌≤◌, Bool, true, false, not, List, [], ◌∷◌, ◌++◌, length, Option, Some, None, IfSome}
-use Rattle.std.specs.Io.KnownBytes.{Appends}
 use Rattle.srm_names.specs.Histories.{since}
+use Rattle.srm_output.specs.Writing.{AppendsAllBut, AppendsFront}
 use Rattle.srm_entries.specs.declared.entry.Entry.{Entry}
 use Rattle.srm_frames.specs.declared.beginning.Beginning.{Beginning}
 use Rattle.srm_frames.specs.declared.line.Line.{Line}
@@ -9,17 +9,6 @@ use Rattle.srm_replays.specs.Calls.{is_empty}
 use Rattle.srm_record.specs.Calls.{line_of, lines_of}
 use Rattle.srm_frames.specs.Lines.{line_text, lines_text}
 use Rattle.srm_record.specs.Records.{record_of, last_of_record}
-
--- known bytes grew by a text, but for the bytes at its end
-pub record AppendsAllBut (old new : Option (List ℕ)) (text behind : List ℕ) : Type 0 where
-  pub front : List ℕ
-  pub parts : front ++ behind ≡ text
-  pub output : Appends old new front
-
--- known bytes grew by the front of a text, or by all of it
-pub record AppendsFront (old new : Option (List ℕ)) (text : List ℕ) : Type 0 where
-  pub behind : List ℕ
-  pub most : AppendsAllBut old new text behind
 
 -- What contracts see of a file that a record is written to: what it held at first and holds now, where that is known, what waits to be written, the last
 -- moment in the record, and whether the file or memory failed.

@@ -6,19 +6,23 @@ ghost use Rattle.srm_names.specs.declared.limits.TheConstants.{PAGES};
 ghost use Rattle.srm_frames.specs.Beginnings.{beginning_text};
 ghost use Rattle.srm_entries.specs.declared.entry.Entry.{Entry as AnEntry};
 ghost use Rattle.srm_record.specs.Calls.{last_after};
-ghost use Rattle.srm_frames.specs.Lines.{lines_text};
+ghost use Rattle.srm_codec.specs.Spelling.{spelling};
+ghost use Rattle.srm_frames.specs.declared.line.Call.TheVariants as calls;
+ghost use Rattle.srm_frames.specs.Lines.{line_text, lines_text};
 ghost use Rattle.srm_record.specs.Records.{whole_record};
 ghost use Rattle.srm_record.specs.Takes.{taken_in, takes_at, end_at};
-ghost use Rattle.srm_record.specs.Writing.{AppendsAllBut, AppendsFront, HasText, HasRecord, Adds, Writes, WritesIf, Notes, call_text, sends};
+ghost use Rattle.srm_output.specs.Writing.{AppendsFront};
+ghost use Rattle.srm_record.specs.Writing.{HasText, HasRecord, Adds, Writes, WritesIf, Notes, call_text, sends};
 
 use crate::taking::{end_at, takes_at};
-use crate::telling::{last_after, line_of};
-use srm_entries::Entry;
-use srm_frames::{Beginning, beginning_bytes, put_line, put_lines};
+use crate::telling::{acts, last_after, line_of, spelled};
+use srm_codec::Datagram;
+use srm_entries::{Entry, Input};
+use srm_frames::{Beginning, beginning_bytes, put_heard, put_line, put_lines};
 use srm_names::PageMsg;
+use srm_output::write_bytes;
 use std::alloc::{AllocError, Global};
-use std::io;
-use std::io::{ErrorKind, Write};
+use std::io::Write;
 use std::marker::Model;
 use std::snapshot::Snapshot;
 
@@ -195,10 +199,40 @@ impl<F: Write + Drop> RecordFile<F> {
 fn put_call(alloc: Global, out: &mut Vec<u8>, session: u32, entry: &Entry) -> Result<(), AllocError>
     ensures { OnOk result (out.new.items ≡ out.old.items ++ call_text session entry.now) }
 {
+    match &entry.input {
+        Input::Heard(datagram) if acts(entry) => {
+            put_datagram(alloc, out, session, entry.moment, datagram)
+        }
+        _ => put_line_of(alloc, out, session, entry),
+    }
+}
+
+fn put_line_of(
+    alloc: Global,
+    out: &mut Vec<u8>,
+    session: u32,
+    entry: &Entry,
+) -> Result<(), AllocError>
+    ensures { OnOk result (out.new.items ≡ out.old.items ++ call_text session entry.now) }
+{
     match line_of(alloc, session, entry)? {
         Some(line) => put_line(alloc, out, &line),
         None => Ok(()),
     }
+}
+
+// The same without a line that owns the bytes, since most of what a record has is datagrams.
+fn put_datagram(
+    alloc: Global,
+    out: &mut Vec<u8>,
+    session: u32,
+    moment: u64,
+    datagram: &Datagram,
+) -> Result<(), AllocError>
+    ensures { OnOk result (out.new.items ≡ out.old.items ++ line_text (record { moment = moment; call = calls.Heard (spelling session datagram.now) })) }
+{
+    let bytes = spelled(alloc, session, datagram)?;
+    put_heard(out, moment, bytes.as_slice())
 }
 
 // Appends the frames of what page workers took, slot by slot, and of the end.
@@ -214,35 +248,4 @@ fn put_all(
     let mut lines = takes_at(alloc, last, taken)?;
     lines.push(end_at(last)).map_err(AllocError::from)?;
     put_lines(alloc, out, lines.as_slice())
-}
-
-/// Writes bytes until all are written or the file refuses more.
-#[tactic(auto, using(crate::proofs::Gathered::written_more, crate::proofs::Gathered::front_still))]
-fn write_bytes<O: Write>(out: &mut O, bytes: &[u8]) -> io::Result<()>
-    ensures printed { OnOk result (AppendsAllBut (O.contents out.old) (O.contents out.new) bytes.now []) }
-    ensures cut { OnErr result (AppendsFront (O.contents out.old) (O.contents out.new) bytes.now) }
-{
-    let mut rest = bytes;
-    for _ in 0..u64::MAX {
-        if rest.is_empty() {
-            return Ok(());
-        }
-        let count = write_some(out, rest)?;
-        rest = rest.split_at(count).1;
-    }
-    Err(ErrorKind::Interrupted.into())
-}
-
-/// Writes some of the bytes, and answers how many: none where the call was interrupted.
-#[tactic(auto, using(crate::proofs::Gathered::kept_is_none))]
-fn write_some<O: Write>(out: &mut O, bytes: &[u8]) -> io::Result<usize>
-    ensures bound { IfOk result (λ count. count ≤ length bytes.now) }
-    ensures written { IfOk result (λ count. Appends (O.contents out.old) (O.contents out.new) (take count bytes.now)) }
-    ensures none { OnErr result (Appends (O.contents out.old) (O.contents out.new) []) }
-{
-    match out.write(bytes) {
-        Ok(0) => Err(ErrorKind::WriteZero.into()),
-        Err(error) if error.kind() == ErrorKind::Interrupted => Ok(0),
-        written => written,
-    }
 }

@@ -54,7 +54,10 @@ fn call_of(alloc: Global, session: u32, input: &Input) -> Result<Option<Call>, A
 {
     match input {
         Input::Drew(page, body) => Ok(Some(Call::Drew(*page, body.clone()?))),
-        Input::Heard(datagram) => Ok(Some(Call::Heard(spelled(alloc, session, datagram)?))),
+        Input::Heard(datagram) => {
+            let bytes = spelled(alloc, session, datagram)?;
+            Ok(Some(Call::Heard(Bytes::copy_from_slice(alloc, bytes.as_slice())?)))
+        }
         Input::Ticked => Ok(Some(Call::Ticked)),
         Input::Showed(page) => Ok(Some(Call::Showed(*page))),
         Input::AskedLeave => Ok(Some(Call::AskedLeave)),
@@ -63,14 +66,14 @@ fn call_of(alloc: Global, session: u32, input: &Input) -> Result<Option<Call>, A
     }
 }
 
-fn spelled(alloc: Global, session: u32, datagram: &Datagram) -> Result<Bytes, AllocError>
-    ensures { IfOk result (λ bytes. bytes ≡ spelling session datagram.now) }
+/// Returns the bytes of a datagram. Fails if out of memory, or if it has no spelling.
+pub fn spelled(alloc: Global, session: u32, datagram: &Datagram) -> Result<Vec<u8>, AllocError>
+    ensures { IfOk result (λ bytes. bytes.items ≡ spelling session datagram.now) }
 {
     if !encodable(datagram) {
         return Err(AllocError);
     }
-    let bytes = encode(alloc, session, datagram)?;
-    Bytes::copy_from_slice(alloc, bytes.as_slice())
+    encode(alloc, session, datagram)
 }
 
 /// Returns the last moment in the record after a call.

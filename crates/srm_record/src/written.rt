@@ -5,7 +5,8 @@ ghost use Rattle.std.specs.Io.KnownBytes.{Appends};
 ghost use Rattle.srm_names.specs.declared.limits.TheConstants.{PAGES};
 ghost use Rattle.srm_record.specs.Records.{whole_record};
 ghost use Rattle.srm_record.specs.Takes.{taken_in};
-ghost use Rattle.srm_record.specs.Writing.{AppendsFront, IsWritten, NotesIn};
+ghost use Rattle.srm_output.specs.Writing.{AppendsFront};
+ghost use Rattle.srm_record.specs.Writing.{IsWritten, NotesIn};
 
 use crate::record_file::RecordFile;
 use srm_entries::Entry;

@@ -4,7 +4,7 @@ use Rattle.std.proofs.lemmas.List.{take-append-drop, nil_from_length}
 use Rattle.std.specs.Prelude.{OnOk}
 use Rattle.std.specs.Io.KnownBytes.{Appends, Keeps}
 use Rattle.std.proofs.KnownBytes.{Appends-nil, Appends-trans, Appends-kept}
-use Rattle.srm_record.specs.Writing.{AppendsAllBut, AppendsFront}
+use Rattle.srm_output.specs.Writing.{AppendsAllBut, AppendsFront}
 
 -- nothing is written of what is gathered
 pub none_of_all : (a : Option (List ℕ)) (text : List ℕ) → AppendsAllBut a a text text
