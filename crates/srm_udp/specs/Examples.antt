@@ -1,12 +1,15 @@
 -- A wire over UDP at worked calls.
-use Rattle.std.specs.Prelude.{◌≡◌, ℕ, true, [], ◌∷◌, Some, None, refl}
+use Rattle.std.specs.Prelude.{◌≡◌, ◌<◌, ℕ, true, [], ◌∷◌, Some, None, refl}
 use Rattle.std.specs.declared.net.socket_addr.SocketAddr.{SocketAddr}
+use Rattle.std.specs.declared.io.ErrorKind.{ErrorKind}
 use Rattle.std.proofs.Common.{arith, inl}
 use Rattle.srm_wire.specs.Wires.{greatest_count, answered_with, bytes_to, none_there}
 use Rattle.srm_udp.specs.Clocks.{NeverFalls}
 use Rattle.srm_udp.specs.declared.loss.Loss.TheVariants.{Denied}
 use Rattle.srm_udp.specs.Inboxes.{Arrives, new_inbox, none_dropped, one_stranger}
 use Rattle.srm_udp.specs.Losses.{no_losses}
+use Rattle.srm_udp.specs.declared.first_failure.WireFailure.TheVariants.{Send, Receive}
+use Rattle.srm_udp.specs.Failures.{IsOfWire}
 use Rattle.srm_udp.specs.Resting.{PausesRested, came_with, rest_of}
 use Rattle.srm_udp.specs.Waiting.{cut, Takes}
 use Rattle.srm_udp.specs.Udp.{BringsNext, SendsOne, new_wire, one_more_failure, one_more_loss}
@@ -96,3 +99,13 @@ one_came = refl
 
 none_came : came_with none_there 4 ≡ 4
 none_came = refl
+
+-- a wire that sends to one address fails to send there, or to receive at its own
+a_send_to_the_roster : (own one : SocketAddr) (cause : ErrorKind) → IsOfWire (record { own = own; roster = one ∷ [] }) (Send one cause)
+a_send_to_the_roster own one cause = let first : 0 < 1 = omega arith in (0, first, refl)
+
+a_receive_at_its_own : (own one : SocketAddr) (cause : ErrorKind) → IsOfWire (record { own = own; roster = one ∷ [] }) (Receive own cause)
+a_receive_at_its_own own one cause = refl
+
+no_send_without_a_roster : (own one : SocketAddr) (cause : ErrorKind) → IsOfWire (record { own = own; roster = [] }) (Send one cause) → ⊥
+no_send_without_a_roster own one cause h = let none : h.0 < 0 = h.1 in absurd (omega (arith, none))

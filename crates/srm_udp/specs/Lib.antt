@@ -1,5 +1,6 @@
 pub mod Clocks
 pub mod Losses
+pub mod Failures
 pub mod Waiting
 pub mod Inboxes
 pub mod Udp

@@ -1,8 +1,12 @@
 //! Which call of a wire failed first, and why.
 
+ghost use Rattle.std.specs.Prelude.{◌≡◌, IfSome};
+ghost use Rattle.srm_udp.specs.Failures.{IsOfWire};
+
 use crate::loss::is_loss;
 use srm_names::Member;
 use std::io::ErrorKind;
+use std::marker::Model;
 use std::net::SocketAddr;
 use std::sync::atomic::{AtomicU64, Ordering};
 use std::{fmt, io};
@@ -37,6 +41,14 @@ pub struct FirstFailure {
     noted: AtomicU64,
 }
 
+impl Model for FirstFailure {
+    ghost use Rattle.srm_udp.specs.Failures.{FailureView};
+
+    ghost Value = { FailureView };
+
+    ghost view = { λ f. record { own = f.own; roster = f.roster.items } };
+}
+
 /// No call failed.
 const NONE: u64 = 0;
 
@@ -48,7 +60,9 @@ const SEND: u64 = 2;
 
 impl FirstFailure {
     /// Makes the note of a wire that is bound to `own` and sends to `roster`; no call failed.
-    pub(crate) fn new(own: SocketAddr, roster: Vec<SocketAddr>) -> FirstFailure {
+    pub(crate) fn new(own: SocketAddr, roster: Vec<SocketAddr>) -> FirstFailure
+        ensures { result ≡ record { own = own; roster = roster.items } }
+    {
         FirstFailure {
             own,
             roster,
@@ -80,8 +94,11 @@ impl FirstFailure {
             .compare_exchange(NONE, failure, Ordering::SeqCst, Ordering::SeqCst);
     }
 
-    /// Returns the call that failed first, or `None` if none did so far, or the system told nothing of it.
-    pub fn first(&self) -> Option<WireFailure> {
+    /// Returns the call that failed first, or `None` if none did so far, or the system told nothing of it. A receive is told with the wire's own address, a send with one that
+    /// the wire sends to.
+    pub fn first(&self) -> Option<WireFailure>
+        ensures { IfSome result (IsOfWire self.now) }
+    {
         let noted = self.noted.load(Ordering::SeqCst);
         let number = i32::try_from(noted % (1 << 32)).ok()?;
         let cause = io::Error::from_raw_os_error(number).kind();

@@ -1,6 +1,7 @@
 //! A wire over UDP.
 
-ghost use Rattle.std.specs.Prelude.{◌≡◌, ◌<◌, ◌≤◌, [], Some, None, length, true, is_err, is_none, IfOk, IfSome, IsErr};
+ghost use Rattle.std.specs.Prelude.{◌≡◌, ◌<◌, ◌≤◌, [], Some, None, length, true, is_err, is_none, vec_len, IfOk, IfSome, IsErr, IsErrAnd};
+ghost use Rattle.std.specs.IoError.{error_kind};
 ghost use Rattle.srm_wire.specs.Wires.{CountsIf, TellsMore, answered, bytes_to, sent_by};
 ghost use Rattle.srm_udp.specs.Inboxes.{GivesNext, NextFits, TakesIn};
 ghost use Rattle.srm_udp.specs.Udp.{AnswersNext, CountsEach, CountsReceive, ReceivesNext, SendsOne, after_error, after_next, after_send, new_wire, one_more_failure, send_fails, with_inbox};
@@ -77,6 +78,7 @@ impl UdpWire {
     ) -> io::Result<UdpWire>
         ensures new { IfOk result (λ w. w ≡ new_wire addresses.items) }
         ensures place { IfOk result (λ w. me < length w.inbox.roster) }
+        ensures stranger { vec_len addresses ≤ me → IsErrAnd result (λ error. error_kind error ≡ ErrorKind.InvalidInput) }
     {
         let Some(own) = addresses.get(me.index()).copied() else {
             return Err(io::Error::from(ErrorKind::InvalidInput));
