@@ -1,6 +1,10 @@
 -- The ranges of what a command line of `srm node` says.
-use Rattle.std.specs.Prelude.{◌≡◌, ◌≤◌, false, vec_len, IfSome}
+use Rattle.std.specs.Prelude.{◌≡◌, ◌≤◌, ◌⊎◌, false, List, [], ◌∷◌, vec_len, Contains, IfSome}
+use Rattle.std.specs.Net.Socket.{socket_port}
+use Rattle.std.specs.declared.net.socket_addr.SocketAddr.{SocketAddr}
 use Rattle.srm_names.specs.declared.limits.TheConstants.{LATEST_MOMENT}
+use Rattle.srm_entries.specs.declared.settings.Settings.{Settings}
+use Rattle.srm_entries.specs.Configs.{default_settings}
 use Rattle.srm_options.specs.declared.guard_options.TheConstants.{MOST_MISSING}
 use Rattle.srm_options.specs.declared.guard_options.GuardOptions.{GuardOptions}
 use Rattle.srm_options.specs.declared.node_options.TheConstants.{LONGEST_LINGER}
@@ -17,3 +21,12 @@ pub record AreInRange (o : NodeOptions) : Type 0 where
   pub linger : o.linger ≤ LONGEST_LINGER
   pub only_live : o.live ≡ false → o.linger ≡ 0
   pub guard : IsInGuardRange o.guard
+
+-- what a live member may send and how long it waits, where its command line says nothing else
+abbrev pub live_settings : Settings
+live_settings = record default_settings { rate = 64000; least_distance = 5000 }
+
+-- The system chooses the port of the first address, or no later one is the same.
+abbrev pub IsFirstApart : List SocketAddr → Type 0
+IsFirstApart [] = Unit {0}
+IsFirstApart (first ∷ rest) = (socket_port first ≡ 0) ⊎ (Contains rest first → ⊥)

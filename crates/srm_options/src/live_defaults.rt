@@ -1,5 +1,8 @@
 //! What a live member does where its command line says nothing else.
 
+ghost use Rattle.std.specs.Prelude.{◌≡◌};
+ghost use Rattle.srm_options.specs.Options.{live_settings};
+
 use srm_entries::Settings;
 
 /// Without `--least-distance` a live member takes a distance as at least so many microseconds. Where members are a few microseconds apart, one that misses
@@ -13,7 +16,9 @@ const RATE: u32 = 64_000;
 pub const LIVE_LINGER: u64 = 2_000_000;
 
 /// Returns what a live member may send and how long it waits.
-pub fn live_settings() -> Settings {
+pub fn live_settings() -> Settings
+    ensures { result ≡ live_settings }
+{
     Settings {
         rate: RATE,
         least_distance: LEAST_DISTANCE,
