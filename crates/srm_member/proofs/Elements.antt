@@ -4,8 +4,8 @@ use Rattle.std.proofs.lemmas.List.{take-append-drop, take_more, flat_map_more, t
 use Rattle.std.proofs.lemmas.List.FromFn.{length-enumerate_from, get_or-enumerate_from}
 use Rattle.std.proofs.lemmas.Grind.{flat_map-append}
 use Rattle.std.specs.List.{flat_map, enumerate_from}
-use Rattle.srm_member.specs.Writing.{AppendsAllBut, AppendsFront}
-use Rattle.srm_member.proofs.Gathered.{all_but_on, front_on, front_of_more}
+use Rattle.srm_output.specs.Writing.{AppendsAllBut, AppendsFront}
+use Rattle.srm_output.proofs.Gathered.{all_but_on, front_on, front_of_more}
 
 module _ {X : Type 0} (f : X → List ℕ) (a b c : Option (List ℕ)) (before behind : List ℕ) (xs : List X) (at : ℕ) (x : X) where
   one_more : at < length xs → x ≡ get_or xs at x → (before ++ flat_map f (take at xs)) ++ f x ≡ before ++ flat_map f (take (at + 1) xs)

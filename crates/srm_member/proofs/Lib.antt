@@ -4,7 +4,6 @@ pub mod Together
 pub mod WholeRuns
 pub mod Dealt
 pub mod Elements
-pub mod Gathered
 pub mod Lanes
 pub mod Splitting
 pub mod Stations

@@ -7,4 +7,3 @@ pub mod Stations
 pub mod Statuses
 pub mod Strokes
 pub mod TakenText
-pub mod Writing

@@ -1,17 +1,18 @@
 //! What is printed at a member's end.
 
-ghost use Rattle.std.specs.Prelude.{◌≡◌, ◌≤◌, ◌⊎◌, [], ◌++◌, length, take, IfOk, IfErr, OnOk, OnErr, Err, string_bytes};
+ghost use Rattle.std.specs.Prelude.{◌≡◌, ◌≤◌, ◌⊎◌, [], ◌++◌, length, IfOk, IfErr, OnOk, OnErr, Err, string_bytes};
 ghost use Rattle.std.specs.Io.KnownBytes.{Appends, Keeps};
 ghost use Rattle.srm_script.specs.declared.fault.ScriptFault.TheVariants.{Memory, Output};
 ghost use Rattle.srm_member.specs.TakenText.{gone_line, lists_of, slot_lines, taken_text, took_line};
-ghost use Rattle.srm_member.specs.Writing.{AppendsAllBut, AppendsFront};
+ghost use Rattle.srm_output.specs.Writing.{AppendsAllBut, AppendsFront};
 
 use srm_names::{LONGEST_BODY, Member, PageMsg};
 use srm_node::Worked;
+use srm_output::write_bytes;
 use srm_script::{PrintedGone, PrintedTake, ScriptFault};
 use std::alloc::Global;
 use std::io;
-use std::io::{ErrorKind, Write};
+use std::io::Write;
 
 /// How many bytes are gathered before they are written.
 const GATHERED: usize = 8_192;
@@ -19,7 +20,7 @@ const GATHERED: usize = 8_192;
 /// Prints what the worker of each slot took, in order, and that the member is gone.
 ///
 /// Fails with `Memory` before anything is printed, and with `Output` where the output can't be written, behind a prefix of these lines.
-#[tactic(auto, using(crate::proofs::Gathered::front_of_none))]
+#[tactic(auto, using(srm_output::proofs::Gathered::front_of_none))]
 pub fn print_taken<O: Write>(
     alloc: Global,
     out: &mut O,
@@ -57,7 +58,7 @@ fn print_all<O: Write>(
 }
 
 /// Writes what is gathered, and that the member is gone.
-#[tactic(auto, using(crate::proofs::Gathered::kept_on, crate::proofs::Gathered::front_of_none, crate::proofs::Gathered::front_of_some))]
+#[tactic(auto, using(srm_output::proofs::Gathered::kept_on, srm_output::proofs::Gathered::front_of_none, srm_output::proofs::Gathered::front_of_some))]
 fn print_gone<O: Write>(out: &mut O, lines: &mut String, me: Member) -> io::Result<()>
     ensures printed { OnOk result (AppendsAllBut (O.contents out.old) (O.contents out.new) (string_bytes lines.old ++ gone_line me) []) }
     ensures cut { OnErr result (AppendsFront (O.contents out.old) (O.contents out.new) (string_bytes lines.old ++ gone_line me)) }
@@ -84,7 +85,7 @@ fn print_slot<O: Write>(
 }
 
 /// Gathers a line, and writes what is gathered once that is much.
-#[tactic(auto, using(crate::proofs::Gathered::none_of_all, crate::proofs::Gathered::front_of_none))]
+#[tactic(auto, using(srm_output::proofs::Gathered::none_of_all, srm_output::proofs::Gathered::front_of_none))]
 fn print_message<O: Write>(
     out: &mut O,
     lines: &mut String,
@@ -116,35 +117,4 @@ fn write_lines<O: Write>(out: &mut O, lines: &mut String) -> io::Result<()>
     write_bytes(out, lines.as_bytes())?;
     lines.clear();
     Ok(())
-}
-
-/// Writes bytes until all are written or the output refuses more.
-#[tactic(auto, using(crate::proofs::Gathered::written_more, crate::proofs::Gathered::front_still))]
-fn write_bytes<O: Write>(out: &mut O, bytes: &[u8]) -> io::Result<()>
-    ensures printed { OnOk result (AppendsAllBut (O.contents out.old) (O.contents out.new) bytes.now []) }
-    ensures cut { OnErr result (AppendsFront (O.contents out.old) (O.contents out.new) bytes.now) }
-{
-    let mut rest = bytes;
-    for _ in 0..u64::MAX {
-        if rest.is_empty() {
-            return Ok(());
-        }
-        let count = write_some(out, rest)?;
-        rest = rest.split_at(count).1;
-    }
-    Err(ErrorKind::Interrupted.into())
-}
-
-/// Writes some of the bytes, and returns how many: none if the call was interrupted.
-#[tactic(auto, using(crate::proofs::Gathered::kept_is_none))]
-fn write_some<O: Write>(out: &mut O, bytes: &[u8]) -> io::Result<usize>
-    ensures bound { IfOk result (λ count. count ≤ length bytes.now) }
-    ensures written { IfOk result (λ count. Appends (O.contents out.old) (O.contents out.new) (take count bytes.now)) }
-    ensures none { OnErr result (Appends (O.contents out.old) (O.contents out.new) []) }
-{
-    match out.write(bytes) {
-        Ok(0) => Err(ErrorKind::WriteZero.into()),
-        Err(error) if error.kind() == ErrorKind::Interrupted => Ok(0),
-        written => written,
-    }
 }

@@ -7,7 +7,7 @@ use Rattle.srm_names.specs.declared.page_msg.PageMsg.{PageMsg}
 use Rattle.srm_node.specs.declared.working.Worked.{Worked}
 use Rattle.srm_member.specs.TakenText.{slot_lines, gone_line, lists_of}
 use Rattle.srm_member.proofs.Elements.{element_on, element_front, elements_all, length-numbered, numbered}
-use Rattle.srm_member.proofs.Gathered.{ends, ends_front, ends_of_front, ok_then, err_then}
+use Rattle.srm_output.proofs.Gathered.{ends, ends_front, ends_of_front, ok_then, err_then}
 use Rattle.srm_member.proofs.printing.print_all.Goals as goal
 
 abbrev list_of : Worked (Vec PageMsg Global) → List PageMsg

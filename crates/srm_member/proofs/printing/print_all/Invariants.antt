@@ -2,7 +2,7 @@ use Rattle.std.proofs.Common.{◌++◌, take}
 use Rattle.std.specs.Prelude.{string_bytes}
 use Rattle.std.specs.List.{enumerate_from, flat_map}
 use Rattle.srm_member.specs.TakenText.{slot_lines, lists_of}
-use Rattle.srm_member.specs.Writing.{AppendsAllBut}
+use Rattle.srm_output.specs.Writing.{AppendsAllBut}
 use Rattle.srm_member.proofs.printing.print_all.Given as goal
 
 abbrev pub invariant-loop-slot : goal.invariant-loop-slot

@@ -1,7 +1,7 @@
 use Rattle.std.proofs.Common.{◌++◌, take}
 use Rattle.std.specs.Prelude.{string_bytes}
 use Rattle.srm_member.specs.TakenText.{slot_lines}
-use Rattle.srm_member.specs.Writing.{AppendsAllBut}
+use Rattle.srm_output.specs.Writing.{AppendsAllBut}
 use Rattle.srm_member.proofs.printing.print_slot.Given as goal
 
 abbrev pub invariant-loop-message : goal.invariant-loop-message

@@ -1,5 +1,5 @@
 use Rattle.std.proofs.Common.{map}
-use Rattle.srm_member.proofs.Gathered.{ok_then}
+use Rattle.srm_output.proofs.Gathered.{ok_then}
 use Rattle.srm_member.proofs.MemberRuns.{lines_known, prints_more_if}
 use Rattle.srm_member.proofs.running.run.Goals as goal
 

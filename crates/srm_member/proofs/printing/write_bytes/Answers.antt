@@ -1,6 +1,0 @@
-use Rattle.std.proofs.Common.{rules}
-use Rattle.std.proofs.lemmas.List.{nil_from_length}
-use Rattle.srm_member.proofs.printing.write_bytes.Goals as goal
-
-pub returns-then-is_empty-clause-printed : goal.returns-then-is_empty-clause-printed
-returns-then-is_empty-clause-printed g c = rw (nil_from_length c.loop.rest.now (search rules)) at c.loop.invariant
