@@ -1,9 +1,9 @@
 //! What a live member's guard drops.
 
+use crate::inputs::Input;
 use crate::lives::*;
 use crate::rig::{bound, options_of};
 use mio::net::UdpSocket;
-use srm_live::run_live;
 use std::io::{ErrorKind, Read};
 use std::net::{Net, SocketAddr};
 use std::process::Abort;
@@ -44,7 +44,7 @@ const FIVE: &[u8] = &[
 
 /// What comes to member 1.
 #[derive(Clone, Copy)]
-enum Come {
+pub(crate) enum Come {
     /// These bytes, from the address of member 0.
     Known(&'static [u8]),
     /// These bytes, from an address outside the roster.
@@ -53,7 +53,7 @@ enum Come {
 
 /// An input that sends one datagram after another to member 1, and ends once that told that member 0 is here. It fails where that isn't told within 30,000 looks, each a millisecond or more.
 #[derive(Drop)]
-struct Coming<R: Wait + Drop> {
+pub(crate) struct Coming<R: Wait + Drop> {
     rt: R,
     err: Written,
     known: UdpSocket,
@@ -105,7 +105,7 @@ where
     let line = format!(in alloc; "--session 7 --me 1 --live --stay 0{words} {first} {to}")?;
     let options = options_of(alloc, line.as_str()).ok_or("options")?;
     let (out, err) = streams(alloc, false)?;
-    let input = Coming {
+    let input = Input::Coming(Coming {
         rt: *rt,
         err: Arc::try_clone(&err)?,
         known,
@@ -114,10 +114,10 @@ where
         comes,
         at: 0,
         looks: 0,
-    };
+    });
     let to_out = output_in(rt, alloc, &out, GIVEN)?;
     let to_err = keep_in(rt, &err, false)?;
-    let status = run_live(rt, options, input, to_out, to_err);
+    let status = run_member(rt, options, input, to_out, to_err);
     Ok((status, err))
 }
 

@@ -1,8 +1,8 @@
 //! How soon an input that has nothing yet is asked again.
 
-use crate::lives::{GIVEN, keep_in, output_in, streams};
+use crate::inputs::Input;
+use crate::lives::{GIVEN, keep_in, output_in, run_member, streams};
 use crate::rig::{free_port, options_of};
-use srm_live::run_live;
 use std::alloc::Global;
 use std::io::{ErrorKind, Read};
 use std::net::Net;
@@ -17,7 +17,7 @@ use std::{io, thread};
 /// An input that has nothing for so many reads, and then ends. Each takes so many microseconds. It notes whether one came less than a millisecond behind the one
 /// before.
 #[derive(Drop)]
-struct Silent<R: Clock + Drop> {
+pub(crate) struct Silent<R: Clock + Drop> {
     rt: R,
     left: u32,
     micros: u64,
@@ -66,18 +66,18 @@ where
     let options = options_of(alloc, line.as_str()).ok_or("options")?;
     let hurried = Arc::new(alloc, AtomicBool::new(false));
     let is_hurried = hurried.ok().ok_or("memory")?;
-    let input = Silent {
+    let input = Input::Silent(Silent {
         rt: *rt,
         left,
         micros,
         answered: None,
         is_hurried: Arc::try_clone(&is_hurried)?,
-    };
+    });
     let (out, err) = streams(alloc, false)?;
     let to_out = output_in(rt, alloc, &out, GIVEN)?;
     let to_err = keep_in(rt, &err, false)?;
     let start = Instant::now(rt)?;
-    let _ = run_live(rt, options, input, to_out, to_err);
+    let _ = run_member(rt, options, input, to_out, to_err);
     Ok((start.elapsed(rt)?, is_hurried.load(Ordering::SeqCst)))
 }
 

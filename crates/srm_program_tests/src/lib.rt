@@ -21,6 +21,8 @@ mod guarding;
 #[cfg(test)]
 mod idling;
 #[cfg(test)]
+mod inputs;
+#[cfg(test)]
 mod judging;
 #[cfg(test)]
 mod lingering;
@@ -46,6 +48,8 @@ mod recording;
 mod relay;
 #[cfg(test)]
 mod rig;
+#[cfg(test)]
+mod sources;
 #[cfg(test)]
 mod staying;
 #[cfg(test)]

@@ -1,10 +1,10 @@
 //! How long a live member lingers that others may still need, or that misses something.
 
-use crate::lives::{keep_in, streams};
+use crate::inputs::Input;
+use crate::lives::{GIVEN, keep_in, output_in, run_member, streams};
 use crate::rig::{bound, options_of};
 use mio::net::UdpSocket;
 use srm_codec::{Datagram, decode};
-use srm_live::run_live;
 use srm_options::read_node;
 use srm_rig::datagrams::{Kind, request, requests, word};
 use std::alloc::{AllocError, Global};
@@ -178,10 +178,10 @@ where
         sessions: 0,
     };
     let beside = thread::spawn(rt, move || beside.run())?;
-    let input: &'static [u8] = b"one\n";
-    let (_, err) = streams(alloc, false)?;
+    let (out, err) = streams(alloc, false)?;
+    let to_out = output_in(rt, alloc, &out, GIVEN)?;
     let to_err = keep_in(rt, &err, false)?;
-    let status = run_live(rt, options, input, Vec::new(alloc), to_err);
+    let status = run_member(rt, options, Input::Text(b"one\n"), to_out, to_err);
     Ok((status, beside.join(rt)))
 }
 

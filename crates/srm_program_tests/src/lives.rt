@@ -1,7 +1,9 @@
 //! Live members by themselves: what they read and write, and how they are run.
 
+use crate::inputs::Input;
 use crate::rig::{free_port, options_of};
 use srm_live::run_live;
+use srm_options::NodeOptions;
 use std::alloc::{AllocError, Global};
 use std::io::{ErrorKind, IsTerminal, Read, Write};
 use std::net::Net;
@@ -114,7 +116,7 @@ pub(crate) enum Last {
 /// Is interrupted once, and reads one line. Then it reads a second, unless it is empty, once a text was written, and a third once it was written
 /// twice, and then ends as it is told.
 #[derive(Drop)]
-struct Hand<R: Clock + Wait + Drop> {
+pub(crate) struct Hand<R: Clock + Wait + Drop> {
     rt: R,
     lines: [&'static [u8]; 3],
     awaited: &'static str,
@@ -209,11 +211,24 @@ where
     let line = format!(in alloc; "--session 7 --live {words} 127.0.0.1:{port}{others}")?;
     let options = options_of(alloc, line.as_str()).ok_or("options")?;
     let (out, err) = streams(alloc, given.is_terminal)?;
-    let hand = hand_of(rt, given, &out)?;
+    let hand = Input::Hand(hand_of(rt, given, &out)?);
     let to_out = output_in(rt, alloc, &out, given)?;
     let to_err = keep_in(rt, &err, given.is_terminal)?;
-    let status = run_live(rt, options, hand, to_out, to_err);
-    Ok((status, out, err))
+    Ok((run_member(rt, options, hand, to_out, to_err), out, err))
+}
+
+/// Runs a live member, and returns its status.
+pub(crate) fn run_member<R>(
+    rt: &R,
+    options: NodeOptions,
+    input: Input<R>,
+    out: Output<R>,
+    err: Kept<R>,
+) -> u8
+where
+    R: Net + Files + Clock + Threads + Wait + AllocGlobal + Copy + Send + Drop + 'static,
+{
+    run_live(rt, options, input, out, err)
 }
 
 /// What nothing was written to yet: one stream twice where both are a terminal.

@@ -2,10 +2,11 @@
 
 ghost use Rattle.std.specs.Prelude.{◌≤◌, length, IfOk};
 
+use crate::inputs::Input;
 use crate::lives::*;
 use crate::rig::{bound, options_of};
 use mio::net::UdpSocket;
-use srm_live::{WAS_BEFORE, run_live};
+use srm_live::WAS_BEFORE;
 use std::io;
 use std::io::{ErrorKind, Read};
 use std::net::{Net, SocketAddr};
@@ -18,7 +19,7 @@ use std::time::Clock;
 
 /// What member 0 does, which is the input of member 1 too.
 #[derive(Clone, Copy)]
-enum Act {
+pub(crate) enum Act {
     /// Member 1 is given this line.
     Type(&'static [u8]),
     /// Member 0 sends a session message with one row, of page 0.0.
@@ -45,7 +46,7 @@ fn told(source: u8, number: u8) -> [u8; 31] {
 
 /// Does one act after another. Then the input ends; it fails where what is awaited isn't told within 30,000 looks, each a millisecond or more.
 #[derive(Drop)]
-struct Acting<R: Wait + Drop> {
+pub(crate) struct Acting<R: Wait + Drop> {
     rt: R,
     err: Written,
     socket: UdpSocket,
@@ -119,7 +120,7 @@ where
     let line = format!(in alloc; "--session 7 --me 1 --live --stay 0 {first} {to} {third}")?;
     let options = options_of(alloc, line.as_str()).ok_or("options")?;
     let (out, err) = streams(alloc, false)?;
-    let input = Acting {
+    let input = Input::Acting(Acting {
         rt: *rt,
         err: Arc::try_clone(&err)?,
         socket,
@@ -127,10 +128,10 @@ where
         acts,
         at: 0,
         looks: 0,
-    };
+    });
     let to_out = output_in(rt, alloc, &out, GIVEN)?;
     let to_err = keep_in(rt, &err, false)?;
-    let status = run_live(rt, options, input, to_out, to_err);
+    let status = run_member(rt, options, input, to_out, to_err);
     Ok((status, err))
 }
 

@@ -3,6 +3,7 @@
 ghost use Rattle.std.specs.Prelude.{◌≡◌, vec_len, IfSome};
 ghost use Rattle.srm_names.specs.declared.limits.TheConstants.{PAGES};
 
+use crate::sources::{Sink, Source};
 use mio::net::UdpSocket;
 use srm_member::{Station, print_reply, run_node};
 use srm_options::{NodeOptions, read_node};
@@ -10,26 +11,11 @@ use srm_rig::Ran;
 use srm_udp::UdpWire;
 use std::alloc::{AllocError, Global};
 use std::io;
-use std::io::{ErrorKind, Read, Write};
 use std::net::{Ipv4Addr, Net, SocketAddr};
 use std::rt::Files;
 use std::sync::Wait;
 use std::thread::Threads;
 use std::time::Clock;
-
-/// A stream that keeps nothing of what it takes, as it says at the end.
-#[derive(Drop)]
-pub(crate) struct Unflushed;
-
-impl Write for Unflushed {
-    fn write(&mut self, bytes: &[u8]) -> io::Result<usize> {
-        Ok(bytes.len())
-    }
-
-    fn flush(&mut self) -> io::Result<()> {
-        Err(io::Error::from(ErrorKind::BrokenPipe))
-    }
-}
 
 /// A socket at some port of this machine, and its address.
 pub(crate) fn bound(net: &impl Net) -> io::Result<(UdpSocket, SocketAddr)> {
@@ -101,11 +87,11 @@ pub(crate) fn station_of<R: Net + Clock + Copy + Drop>(
 }
 
 /// Runs `srm node` with these words, one space apart, over these streams. Its status, and what it wrote on standard error.
-pub(crate) fn run_over<R, I: Read, O: Write>(
+pub(crate) fn run_over<R>(
     rt: &R,
     line: &str,
-    reader: &mut I,
-    out: &mut O,
+    reader: &mut Source<'_>,
+    out: &mut Sink,
 ) -> Result<(u8, Vec<u8>), AllocError>
 where
     R: Net + Files + Clock + Threads + Wait + AllocGlobal + Copy + Send + Drop + 'static,
@@ -125,9 +111,9 @@ pub(crate) fn run<R>(rt: &R, line: &str, input: &[u8]) -> Result<Ran, AllocError
 where
     R: Net + Files + Clock + Threads + Wait + AllocGlobal + Copy + Send + Drop + 'static,
 {
-    let mut reader = input;
-    let mut out = Vec::new(rt.alloc());
-    let (status, err) = run_over(rt, line, &mut reader, &mut out)?;
+    let mut out = Sink::Kept(Vec::new(rt.alloc()));
+    let (status, err) = run_over(rt, line, &mut Source::Text(input), &mut out)?;
+    let out = out.kept(rt.alloc());
     Ok(Ran { status, out, err })
 }
 

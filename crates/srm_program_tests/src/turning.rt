@@ -1,10 +1,10 @@
 //! Which pages a live member tells about while nobody draws.
 
-use crate::lives::{keep_in, streams};
+use crate::inputs::Input;
+use crate::lives::{GIVEN, keep_in, output_in, run_member, streams};
 use crate::rig::{bound, options_of};
 use mio::net::UdpSocket;
 use srm_codec::{Datagram, decode};
-use srm_live::run_live;
 use srm_names::Page;
 use std::alloc::Global;
 use std::net::Net;
@@ -99,9 +99,10 @@ where
         told: [0; 3],
     };
     let listening = thread::spawn(rt, move || listener.run())?;
-    let (_, err) = streams(alloc, false)?;
+    let (out, err) = streams(alloc, false)?;
+    let to_out = output_in(rt, alloc, &out, GIVEN)?;
     let to_err = keep_in(rt, &err, false)?;
-    let status = run_live(rt, options, INPUT, Vec::new(alloc), to_err);
+    let status = run_member(rt, options, Input::Text(INPUT), to_out, to_err);
     Ok((status, listening.join(rt)))
 }
 

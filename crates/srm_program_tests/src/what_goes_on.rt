@@ -1,9 +1,9 @@
 //! What goes on, as the title of a terminal's window and where it is asked for.
 
+use crate::inputs::Input;
 use crate::lives::*;
 use crate::rig::{bound, options_of};
 use mio::net::UdpSocket;
-use srm_live::run_live;
 use srm_rig::datagrams::{Kind, requests, word};
 use std::alloc::Global;
 use std::io;
@@ -91,7 +91,7 @@ fn data(session: u8, source: u8, number: u32) -> [u8; 29] {
 /// Member 0 of three, which is the input of member 1 too. It types two lines. Once it has them it asks for them again and sends its second drawop, beside noise and what is ignored;
 /// and its first once that was asked for and member 1 told that it is missing. It types `/who` at each hundredth look. The input ends once all that came was told so, or fails after 10,000 looks.
 #[derive(Drop)]
-struct Peer<R: Wait + Drop> {
+pub(crate) struct Peer<R: Wait + Drop> {
     rt: R,
     alloc: Global,
     told: Written,
@@ -209,7 +209,7 @@ where
     let line = format!(in alloc; "--session 7 --me 1 --live --stay 0 {first} {to} {third}")?;
     let options = options_of(alloc, line.as_str()).ok_or("options")?;
     let (out, err) = streams(alloc, false)?;
-    let input = Peer {
+    let input = Input::Peer(Peer {
         rt: *rt,
         alloc,
         told: Arc::try_clone(&err)?,
@@ -220,10 +220,10 @@ where
         came: 0,
         requests: 0,
         is_repaired: false,
-    };
+    });
     let to_out = output_in(rt, alloc, &out, GIVEN)?;
     let to_err = keep_in(rt, &err, false)?;
-    let status = run_live(rt, options, input, to_out, to_err);
+    let status = run_member(rt, options, input, to_out, to_err);
     Ok((status, out, err))
 }
 
