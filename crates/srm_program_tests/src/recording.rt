@@ -5,6 +5,7 @@ use crate::relay::{Relay, stops_before};
 use crate::rig::{bound, free_port, run};
 use srm_member::print_reply;
 use srm_options::read_audit;
+use srm_played::run_picture;
 use srm_rig::Ran;
 use srm_script::{Dialect, run_script_in};
 use srm_verdicts::run_audit;
@@ -101,6 +102,35 @@ fn taken_in(alloc: Global, printed: &str, me: u8) -> Result<String, AllocError> 
     Ok(text)
 }
 
+/// The verdict is a line, and behind it is one for each member, with the path of its record.
+fn assert_honest<R: Abort + AllocGlobal>(rt: &R, paths: [&str; 3], ran: &Ran) -> Result<(), Fail> {
+    let text = str::from_utf8(ran.out.as_slice()).unwrap_or("");
+    let mut lines = text.lines();
+    let first = lines.next().unwrap_or("");
+    assert!(rt; first.starts_with("honest: session 7, 3 members, ") && first.ends_with(" calls"));
+    for (me, path) in (0..3_u8).zip(paths) {
+        let head = format!(in rt.alloc(); "member {me}: {path}, ")?;
+        assert!(rt; lines.next().unwrap_or("").starts_with(head.as_str()));
+    }
+    assert!(rt; lines.next().is_none());
+    Ok(())
+}
+
+/// The picture of a session is that of its script.
+fn assert_drawn<R: Files + Abort + AllocGlobal>(rt: &R, paths: [&str; 3]) -> Result<(), Fail> {
+    let alloc = rt.alloc();
+    let [first, second, third] = paths;
+    let script = audited(rt, &["--script", first, second, third]);
+    let mut reader = script.out.as_slice();
+    let mut wanted = Vec::new(alloc);
+    let mut err = Vec::new(alloc);
+    assert_eq!(rt; run_picture(alloc, &mut reader, &mut wanted, &mut err), 0);
+    let drawn = audited(rt, &["--picture", first, second, third]);
+    assert_eq!(rt; drawn.status, 0);
+    assert!(rt; drawn.out.as_slice() == wanted.as_slice());
+    Ok(())
+}
+
 /// The session of three records is honest, as its script its members took what they printed, and without one of the records it is undecided.
 fn assert_recorded<R: Files + Abort + AllocGlobal>(
     rt: &R,
@@ -111,8 +141,17 @@ fn assert_recorded<R: Files + Abort + AllocGlobal>(
     let [first, second, third] = paths;
     let ran = audited(rt, &[first, second, third]);
     assert_eq!(rt; ran.status, 0);
-    assert!(rt; ran.out.starts_with(b"honest: session 7, 3 members, "));
+    assert_honest(rt, paths, &ran)?;
     assert_eq!(rt; audited(rt, &[first, third]).status, 7);
+    assert_drawn(rt, paths)?;
+    let ran = audited(rt, &[first, second, "no/such/file"]);
+    assert_eq!(rt; ran.status, 1);
+    assert!(rt;
+        ran.out.is_empty()
+            && ran
+                .err
+                .starts_with(b"srm: cannot read record no/such/file: ")
+    );
     let out = played(rt, &["--script", first, second, third])?;
     let text = str::from_utf8(out.as_slice()).unwrap_or("");
     for (me, own) in (0..3_u8).zip(printed) {

@@ -6,7 +6,7 @@ use crate::rig::{beginning, finish, page, recording};
 use bytes::Bytes;
 use srm_audited::audit;
 use srm_record::Ended;
-use srm_verdicts::print_verdict;
+use srm_verdicts::verdict_text;
 use std::alloc::Global;
 use std::process::Abort;
 
@@ -253,14 +253,35 @@ fn late_give(rt: &impl Abort, alloc: Global) -> Vec<u8> {
     forged(rt, alloc, file.as_slice(), true)
 }
 
+/// Member 1 gives the first page when it was made. Then it hears what nobody sent: call 1 of its record.
+fn first_give(rt: &impl Abort, alloc: Global) -> Vec<u8> {
+    let mut other = recording(rt, alloc, beginning(rt, 1, 2), Vec::new(alloc));
+    let _ = other.give(0).expect(rt, "given");
+    let Ended { file, .. } = finish(rt, alloc, other, Vec::new(alloc));
+    let file = file.expect(rt, "a file");
+    forged(rt, alloc, file.as_slice(), true)
+}
+
+/// What is printed of member 0 of a session and this record of member 1.
+fn verdict_with(rt: &impl Abort, alloc: Global, lies: &[u8]) -> String {
+    let (one, _) = session(rt, alloc);
+    let records = records_in(rt, alloc, &[one.as_slice(), lies]);
+    let verdict = audit(alloc, records.as_slice()).expect(rt, "memory");
+    verdict_text(alloc, &["one", "other"], records.as_slice(), &verdict).expect(rt, "memory")
+}
+
 #[test]
 fn a_call_is_told_by_its_place_in_the_record(rt: HostRuntime) {
     let alloc = rt.alloc();
-    let (one, _) = session(&rt, alloc);
-    let lies = late_give(&rt, alloc);
-    let records = records_in(&rt, alloc, &[one.as_slice(), lies.as_slice()]);
-    let verdict = audit(alloc, records.as_slice()).expect(&rt, "memory");
-    let mut out = Vec::new(alloc);
-    print_verdict(&mut out, &["one", "other"], records.as_slice(), &verdict).expect(&rt, "output");
-    assert!(rt; out.starts_with(b"not honest: call 4 of member 1 hears a datagram"));
+    let late = verdict_with(&rt, alloc, late_give(&rt, alloc).as_slice());
+    assert!(rt;
+        late.as_str()
+            .starts_with("not honest: call 4 of member 1 hears a datagram")
+    );
+    let first = verdict_with(&rt, alloc, first_give(&rt, alloc).as_slice());
+    assert!(rt;
+        first
+            .as_str()
+            .starts_with("not honest: call 1 of member 1 hears a datagram")
+    );
 }

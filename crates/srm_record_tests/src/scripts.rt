@@ -1,7 +1,8 @@
 //! Honest sessions, written as scripts.
 
-use crate::rig::{beginning, finish, page, recording};
+use crate::rig::{beginning, finish, member, page, recording};
 use bytes::Bytes;
+use srm_agent::{Config, Settings};
 use srm_audited::{Verdict, audit};
 use srm_frames::{Beginning, Record, read_record};
 use srm_record::Ended;
@@ -66,6 +67,16 @@ fn who_heard_it_later_by_the_time_of_day_comes_later(rt: HostRuntime) {
     assert_eq!(rt; text.as_slice(), wanted.as_bytes());
 }
 
+// It heard it as the other gave, by the time of day.
+#[test]
+fn at_one_time_of_day_the_least_member_comes_first(rt: HostRuntime) {
+    let alloc = rt.alloc();
+    let text = script(&rt, alloc, b"hi", begun(&rt, 1, 990)).expect(&rt, "a script");
+    let wanted =
+        "members 2\ndraw 0 10 0.0 hi\ntick 0 20\ngive 0 0\ngive 0 0\ntake 0 0\ntake 0 0\ndeliver 1 30 0\n";
+    assert_eq!(rt; text.as_slice(), wanted.as_bytes());
+}
+
 // By the time of day it heard what wasn't sent yet, so its clock was slow: it comes as soon as it can.
 #[test]
 fn nothing_is_heard_before_it_is_sent(rt: HostRuntime) {
@@ -88,4 +99,57 @@ fn a_member_that_was_made_later(rt: HostRuntime) {
     let alloc = rt.alloc();
     let said = script(&rt, alloc, b"hi", beginning(&rt, 1, 2));
     assert!(rt; matches!(said, Err(AuditFault::NoScript(NoScript::MadeLater(1)))));
+}
+
+/// Whether no script says, for this cause, that member 1, whose record comes first, has these settings and member 0 the usual ones.
+fn is_unsaid(rt: &impl Abort, alloc: Global, settings: Settings, why: NoScript) -> bool {
+    let other = Beginning {
+        config: Config::with(member(rt, 1), 2, 7, settings).expect(rt, "settings"),
+        ..begun(rt, 1, 1_000)
+    };
+    match script(rt, alloc, b"hi", other) {
+        Err(AuditFault::NoScript(found)) => found == why,
+        _ => false,
+    }
+}
+
+#[test]
+fn a_member_that_waits_otherwise(rt: HostRuntime) {
+    let alloc = rt.alloc();
+    let usual = Settings::default();
+    for settings in [
+        Settings { c1: 3, ..usual },
+        Settings { c2: 3, ..usual },
+        Settings { d1: 3, ..usual },
+        Settings { d2: 3, ..usual },
+    ] {
+        assert!(rt; is_unsaid(&rt, alloc, settings, NoScript::Waits(1)));
+    }
+}
+
+#[test]
+fn a_member_with_another_bucket(rt: HostRuntime) {
+    let alloc = rt.alloc();
+    let usual = Settings::default();
+    for settings in [
+        Settings {
+            rate: 8_001,
+            ..usual
+        },
+        Settings {
+            depth: 4_205,
+            ..usual
+        },
+    ] {
+        assert!(rt; is_unsaid(&rt, alloc, settings, NoScript::Buckets(0)));
+    }
+}
+
+#[test]
+fn a_member_with_another_floor(rt: HostRuntime) {
+    let settings = Settings {
+        least_distance: 2,
+        ..Settings::default()
+    };
+    assert!(rt; is_unsaid(&rt, rt.alloc(), settings, NoScript::Distances(0)));
 }

@@ -1,8 +1,6 @@
 -- The status that `srm audit` ends with.
-use Rattle.std.specs.Prelude.{◌≡◌, ℕ, ◌⊎◌, List}
+use Rattle.std.specs.Prelude.{ℕ}
 use Rattle.srm_script.specs.declared.status.TheConstants.{FAILED, RAN_OUT}
-use Rattle.srm_frames.specs.declared.reading.Record.{Record}
-use Rattle.srm_audited.specs.Verdicts.{IsVerdict}
 use Rattle.srm_audited.specs.declared.verdict.Verdict.{Verdict}
 use Rattle.srm_audited.specs.declared.verdict.Verdict.TheVariants.{Honest, NotHonest, Undecided}
 use Rattle.srm_verdicts.specs.declared.status.TheConstants.{NOT_HONEST, UNDECIDED}
@@ -17,15 +15,3 @@ status_of Undecided = UNDECIDED
 abbrev pub status_of_fault : AuditFault → ℕ
 status_of_fault Memory = RAN_OUT
 status_of_fault _ = FAILED
-
--- the status is that of the verdict on these records
-abbrev pub IsStatusOn : List Record → ℕ → Type 0
-IsStatusOn records status = (v : Verdict) × IsVerdict records v × (status ≡ status_of v)
-
--- the status is that of a verdict
-abbrev pub IsStatusOf : ℕ → Type 0
-IsStatusOf status = (v : Verdict) × (status ≡ status_of v)
-
--- the status is that of a verdict, or of a fault
-abbrev pub IsAuditStatus : ℕ → Type 0
-IsAuditStatus status = IsStatusOf status ⊎ ((fault : AuditFault) × (status ≡ status_of_fault fault))

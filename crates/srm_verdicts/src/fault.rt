@@ -1,7 +1,10 @@
 //! Why there is no verdict, or none that is shown as asked.
 
-ghost use Rattle.std.specs.Prelude.{◌≡◌};
+ghost use Rattle.std.specs.Prelude.{◌≡◌, ◌⊎◌};
+ghost use Rattle.std.specs.IoError.{error_kind};
+ghost use Rattle.srm_verdicts.specs.AuditFaults.{fault_of_kind, fault_of_picture, fault_of_script};
 ghost use Rattle.srm_verdicts.specs.AuditStatuses.{status_of_fault};
+ghost use Rattle.srm_verdicts.specs.declared.fault.AuditFault.TheVariants.{Memory, Output};
 
 use crate::no_script::NoScript;
 use srm_frames::RecordFault;
@@ -44,7 +47,10 @@ impl AuditFault {
     }
 
     /// Returns the fault of an error in writing standard output: out of memory, or else that it can't be written.
-    pub fn of_output(error: io::Error) -> AuditFault {
+    pub fn of_output(error: io::Error) -> AuditFault
+        ensures value { result ≡ fault_of_kind (error_kind error) }
+        ensures one { (result ≡ Memory) ⊎ (result ≡ Output) }
+    {
         match error.kind() {
             ErrorKind::OutOfMemory => AuditFault::Memory,
             _ => AuditFault::Output,
@@ -53,22 +59,28 @@ impl AuditFault {
 }
 
 impl From<AllocError> for AuditFault {
+    ghost from_gives = { λ _ gives. gives ≡ Memory };
+
     fn from(_error: AllocError) -> AuditFault {
         AuditFault::Memory
     }
 }
 
+// Of a run's own script.
 impl From<ScriptFault> for AuditFault {
+    ghost from_gives = { λ fault gives. gives ≡ fault_of_script fault };
+
     fn from(fault: ScriptFault) -> AuditFault {
         match fault {
             ScriptFault::Memory => AuditFault::Memory,
-            ScriptFault::Output => AuditFault::Output,
             _ => AuditFault::NoScript(NoScript::Unread),
         }
     }
 }
 
 impl From<PictureFault> for AuditFault {
+    ghost from_gives = { λ fault gives. gives ≡ fault_of_picture fault };
+
     fn from(fault: PictureFault) -> AuditFault {
         match fault {
             PictureFault::Script(fault) => AuditFault::from(fault),

@@ -1,9 +1,14 @@
 //! An honest run as a script.
 
+ghost use Rattle.std.specs.Prelude.{◌≡◌, ◌≤◌, length, IfErr, IfOk};
+ghost use Rattle.srm_verdicts.specs.AuditFaults.{IsUnsaid};
+ghost use Rattle.srm_verdicts.specs.declared.no_script.TheConstants.{LONGEST_SCRIPT};
+ghost use Rattle.srm_verdicts.specs.declared.fault.AuditFault.TheVariants.{Memory};
+
+use crate::counting::record_of;
 use crate::fault::AuditFault;
 use crate::no_script::{LONGEST_SCRIPT, NoScript, find_unsaid};
 use crate::ordering::wall_order;
-use crate::waiting::record_of;
 use srm_entries::{Config, DEFAULT_DEPTH, DEFAULT_RATE, Entry, Input, Settings};
 use srm_frames::Record;
 use srm_names::{Member, Page};
@@ -17,7 +22,10 @@ use std::io::Write;
 /// [`wall_order`]. Noise, which changes nothing, is left out.
 ///
 /// Fails with [`AuditFault::NoScript`] if a script can't say it, or would have more than 1,000,000 bytes, and if out of memory.
-pub fn script_of(alloc: Global, records: &[Record], trace: &Trace) -> Result<Vec<u8>, AuditFault> {
+pub fn script_of(alloc: Global, records: &[Record], trace: &Trace) -> Result<Vec<u8>, AuditFault>
+    ensures fits { IfOk result (λ text. length text.items ≤ LONGEST_SCRIPT) }
+    ensures unsaid { IfErr result IsUnsaid }
+{
     let entries = trace.entries();
     if let Some(unsaid) = find_unsaid(records, entries) {
         return Err(AuditFault::NoScript(unsaid));
@@ -27,19 +35,26 @@ pub fn script_of(alloc: Global, records: &[Record], trace: &Trace) -> Result<Vec
     };
     let config = first.beginning.config;
     let mut text = Vec::new(alloc);
-    put_head(&mut text, config, records, entries).map_err(AuditFault::of_output)?;
+    put_head(&mut text, config, records, entries).map_err(of_vector)?;
     for placed in wall_order(alloc, records, entries, config.members())? {
         if text.len() > LONGEST_SCRIPT {
             return Err(AuditFault::NoScript(NoScript::TooLong));
         }
         if let Some(entry) = entries.get(placed.place) {
-            put_event(&mut text, entry, placed.number).map_err(AuditFault::of_output)?;
+            put_event(&mut text, entry, placed.number).map_err(of_vector)?;
         }
     }
     if text.len() > LONGEST_SCRIPT {
         return Err(AuditFault::NoScript(NoScript::TooLong));
     }
     Ok(text)
+}
+
+// A vector refuses bytes only if out of memory.
+fn of_vector(_error: io::Error) -> AuditFault
+    ensures { result ≡ Memory }
+{
+    AuditFault::Memory
 }
 
 // The first lines. All members have the rate, the depth and the floor under distances of these settings.

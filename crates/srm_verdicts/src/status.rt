@@ -8,7 +8,7 @@ use srm_audited::Verdict;
 /// The status if the records are no honest run: 6.
 pub const NOT_HONEST: u8 = 6;
 
-/// The status if the records may be an honest run, and one of them is missing or cut: 7. It is the greatest.
+/// The status if the calls of the records may be of an honest run, and a record is missing or cut: 7. It is the greatest.
 pub const UNDECIDED: u8 = 7;
 
 /// Returns the status that the program ends with once it has printed a verdict.

@@ -1,9 +1,9 @@
 //! What is left of a member's entries.
 
+use crate::counting::record_of;
 use crate::sendings::{Sendings, bytes_of};
 use srm_entries::Entry;
 use srm_frames::{Beginning, Record};
-use srm_names::Member;
 use std::alloc::{AllocError, Global};
 use std::collections::VecDeque;
 
@@ -107,10 +107,4 @@ pub fn waiting_of(
         }
     }
     Ok(waiting)
-}
-
-/// Returns the record of the member with this number, if there is one.
-pub fn record_of(records: &[Record], number: u8) -> Option<&Record> {
-    let me = Member::new(number)?;
-    records.iter().find(|read| read.beginning.config.me() == me)
 }

@@ -1,0 +1,127 @@
+//! A verdict in words.
+
+ghost use Rattle.std.specs.Prelude.{◌≡◌, string_bytes, IfOk};
+ghost use Rattle.srm_audited.specs.Sessions.{is_cut};
+ghost use Rattle.srm_verdicts.specs.VerdictTexts as spec;
+
+use crate::counting::{call_of_entry, calls_in, calls_in_all, cuts_in, is_cut, session_of};
+use srm_audited::{Reason, Verdict};
+use srm_frames::Record;
+use std::alloc::{AllocError, Global};
+
+/// Returns a verdict on records as a line, and behind it a line for each record: its member, its path, how many calls it has, and whether it is cut. The paths are those of the
+/// records, in their order.
+///
+/// Fails only if out of memory.
+pub fn verdict_text(
+    alloc: Global,
+    paths: &[&str],
+    records: &[Record],
+    verdict: &Verdict,
+) -> Result<String, AllocError>
+    ensures { IfOk result (λ text. string_bytes text ≡ spec.verdict_text (spec.paths_of paths.now) records.now verdict.now) }
+{
+    let mut text = verdict_line(alloc, paths, records, verdict)?;
+    for (path, read) in paths.iter().zip(records) {
+        let line = record_line(alloc, path, read)?;
+        text.push_str(line.as_str())?;
+    }
+    Ok(text)
+}
+
+fn verdict_line(
+    alloc: Global,
+    paths: &[&str],
+    records: &[Record],
+    verdict: &Verdict,
+) -> Result<String, AllocError>
+    ensures { IfOk result (λ text. string_bytes text ≡ spec.verdict_line (spec.paths_of paths.now) records.now verdict.now) }
+{
+    match verdict {
+        Verdict::Honest(_) => honest_line(alloc, records),
+        Verdict::NotHonest(reason) => reason_line(alloc, paths, records, *reason),
+        Verdict::Undecided => undecided_line(alloc, records),
+    }
+}
+
+fn honest_line(alloc: Global, records: &[Record]) -> Result<String, AllocError>
+    ensures { IfOk result (λ text. string_bytes text ≡ spec.honest_line records.now) }
+{
+    let (session, members) = session_of(records);
+    let members = counted(alloc, usize::from(members), "member")?;
+    let calls = counted(alloc, calls_in_all(records), "call")?;
+    format!(in alloc; "honest: session {session}, {members}, {calls}\n")
+}
+
+fn reason_line(
+    alloc: Global,
+    paths: &[&str],
+    records: &[Record],
+    reason: Reason,
+) -> Result<String, AllocError>
+    ensures { IfOk result (λ text. string_bytes text ≡ spec.reason_line (spec.paths_of paths.now) records.now reason) }
+{
+    match reason {
+        Reason::Untold { place } => {
+            let path = paths.get(place).copied().unwrap_or("");
+            format!(in alloc; "not honest: {path} isn't the record of any run of its member\n")
+        }
+        Reason::Roster => String::from_str(
+            alloc,
+            "not honest: the records aren't of different members of one session\n",
+        ),
+        Reason::Foreign { member, slot } => {
+            let member = member.number();
+            format!(in alloc;
+                "not honest: the worker of page slot {slot} of member {member} took what it wasn't given\n"
+            )
+        }
+        Reason::Unsent { member, entry } => {
+            let call = call_of_entry(records, member, entry);
+            let member = member.number();
+            format!(in alloc;
+                "not honest: call {call} of member {member} hears a datagram that nobody can have sent before\n"
+            )
+        }
+    }
+}
+
+fn undecided_line(alloc: Global, records: &[Record]) -> Result<String, AllocError>
+    ensures { IfOk result (λ text. string_bytes text ≡ spec.undecided_line records.now) }
+{
+    let (session, members) = session_of(records);
+    let here = records.len();
+    let wanted = counted(alloc, usize::from(members), "record")?;
+    let cut = cuts_in(records);
+    format!(in alloc; "undecided: session {session}, {here} of {wanted}, {cut} of them cut\n")
+}
+
+fn record_line(alloc: Global, path: &str, read: &Record) -> Result<String, AllocError>
+    ensures { IfOk result (λ text. string_bytes text ≡ spec.record_line path.now read.now) }
+{
+    let member = read.beginning.config.me().number();
+    let calls = counted(alloc, calls_in(read), "call")?;
+    let cut = cut_text(is_cut(read.end));
+    format!(in alloc; "member {member}: {path}, {calls}{cut}\n")
+}
+
+// What stands behind a record that is cut.
+fn cut_text(is_cut: bool) -> &'static str
+    ensures { result.now ≡ spec.cut_text is_cut }
+{
+    if is_cut { ", cut" } else { "" }
+}
+
+// So many of what a word says.
+fn counted(alloc: Global, count: usize, word: &str) -> Result<String, AllocError>
+    ensures { IfOk result (λ text. string_bytes text ≡ spec.counted count word.now) }
+{
+    let end = plural(count);
+    format!(in alloc; "{count} {word}{end}")
+}
+
+fn plural(count: usize) -> &'static str
+    ensures { result.now ≡ spec.plural count }
+{
+    if count == 1 { "" } else { "s" }
+}
