@@ -1,7 +1,9 @@
 pub mod Askings
+pub mod Codes
 pub mod LiveLines
 pub mod LiveMembers
 pub mod LiveRuns
+pub mod MemberBits
 pub mod PageNames
 pub mod Recorded
 pub mod Sent

@@ -7,7 +7,11 @@ pub mod LiveLines
 pub mod LiveRuns
 pub mod LiveMembers
 pub mod LiveStatuses
+pub mod MemberSets
 pub mod Needs
 pub mod News
+pub mod PageCodes
+pub mod PresenceExamples
 pub mod Readable
+pub mod Standings
 pub mod Typing

@@ -1,11 +1,9 @@
 //! Which pages have strokes, and which drawops a member misses, counted by stream.
 
-use srm_names::{MEMBERS, Member, Name, PAGE_NUMBERS, PAGES, Page};
+use crate::page_code::{code_of, page_of};
+use srm_names::{MEMBERS, Member, Name, PAGES, Page};
 use std::alloc::{AllocError, Global};
 use std::sync::atomic::{AtomicU64, AtomicUsize, Ordering};
-
-/// Pages of one member, at most.
-const NUMBERS: u64 = PAGE_NUMBERS as u64;
 
 /// How many drawops of each stream a member misses. One thread counts, and any reads. Counts wrap at 2^64.
 #[derive(Drop)]
@@ -128,18 +126,4 @@ impl PageHoles {
         }
         found == 0 || found == code
     }
-}
-
-/// Returns a page as a number above 0.
-pub fn code_of(page: Page) -> u64 {
-    u64::from(page.creator.number()) * NUMBERS + u64::from(page.number) + 1
-}
-
-/// Returns the page of such a number; `None` for 0.
-pub fn page_of(code: u64) -> Option<Page> {
-    let code = code.checked_sub(1)?;
-    Some(Page {
-        creator: Member::new(u8::try_from(code / NUMBERS).ok()?)?,
-        number: u16::try_from(code % NUMBERS).ok()?,
-    })
 }

@@ -1,5 +1,11 @@
 //! Who of the others is here, as far as a member has heard.
 
+ghost use Rattle.std.specs.Prelude.{◌≡◌};
+ghost use Rattle.srm_live.specs.MemberSets.{Gains, Loses};
+ghost use Rattle.srm_live.specs.MemberSets as sets;
+ghost use Rattle.srm_live.specs.Standings.{nobody, standing_of};
+
+use crate::member_set::{has, with, without};
 use srm_names::Member;
 
 /// What is known of another member.
@@ -28,7 +34,9 @@ pub struct Presence {
 
 impl Presence {
     /// Returns that nobody was heard yet.
-    pub fn none() -> Presence {
+    pub fn none() -> Presence
+        ensures { result ≡ nobody }
+    {
         Presence {
             heard: 0,
             silent: 0,
@@ -37,13 +45,14 @@ impl Presence {
     }
 
     /// Returns what is known of a member.
-    pub fn standing(&self, member: Member) -> Standing {
-        let bit = bit_of(member);
-        if self.left & bit != 0 {
+    pub fn standing(&self, member: Member) -> Standing
+        ensures { result ≡ standing_of self.now member }
+    {
+        if has(self.left, member) {
             Standing::Left
-        } else if self.silent & bit != 0 {
+        } else if has(self.silent, member) {
             Standing::Silent
-        } else if self.heard & bit != 0 {
+        } else if has(self.heard, member) {
             Standing::Here
         } else {
             Standing::Unheard
@@ -51,28 +60,35 @@ impl Presence {
     }
 
     /// Returns whether a datagram of a member came.
-    pub fn is_heard(&self, member: Member) -> bool {
-        self.heard & bit_of(member) != 0
+    pub fn is_heard(&self, member: Member) -> bool
+        ensures { result ≡ sets.has self.now.heard member }
+    {
+        has(self.heard, member)
     }
 
     /// Notes that a datagram of a member came.
-    pub fn hear(&mut self, member: Member) {
-        self.heard |= bit_of(member);
-        self.silent &= !bit_of(member);
+    pub fn hear(&mut self, member: Member)
+        ensures heard { Gains self.old.heard member self.new.heard }
+        ensures silent { Loses self.old.silent member self.new.silent }
+        ensures left { self.new.left ≡ self.old.left }
+    {
+        self.heard = with(self.heard, member);
+        self.silent = without(self.silent, member);
     }
 
     /// Notes that a member said that it leaves.
-    pub fn leave(&mut self, member: Member) {
-        self.left |= bit_of(member);
+    pub fn leave(&mut self, member: Member)
+        ensures left { Gains self.old.left member self.new.left }
+        ensures others { self.new ≡ record self.old { left = self.new.left } }
+    {
+        self.left = with(self.left, member);
     }
 
     /// Notes that no datagram of a member came for long.
-    pub fn fall_silent(&mut self, member: Member) {
-        self.silent |= bit_of(member);
+    pub fn fall_silent(&mut self, member: Member)
+        ensures silent { Gains self.old.silent member self.new.silent }
+        ensures others { self.new ≡ record self.old { silent = self.new.silent } }
+    {
+        self.silent = with(self.silent, member);
     }
-}
-
-// The bit of a member.
-fn bit_of(member: Member) -> u32 {
-    1_u32.wrapping_shl(u32::from(member.number()))
 }

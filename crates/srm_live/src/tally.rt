@@ -1,8 +1,9 @@
 //! What a member goes through, counted.
 
 use crate::dropped::{Dropped, DroppedCounts};
-use crate::holes::{Holes, code_of, page_of};
+use crate::holes::Holes;
 use crate::lost::{Lost, LostCounts};
+use crate::page_code::{code_of, page_of};
 use crate::presence::Presence;
 use srm_codec::Datagram;
 use srm_names::Page;
