@@ -1,6 +1,6 @@
 mod Tables
 mod Linear
-mod Fours
+mod Chunks
 mod ChecksumBounds
 pub mod Elements
 mod FrameLaws

@@ -144,3 +144,35 @@ four_bytes r a b c d small p q s t =
     ∙ ap (bit_xor (after_bits 32 u))
     (one_more 16 v (bit_xor (after_bits 8 w) (r / 2 ^ 24)) d t
     ∙ ap (bit_xor (after_bits 24 v)) (one_more 8 w (r / 2 ^ 24) d t ∙ ap (bit_xor (after_bits 16 w)) last))
+
+-- four bytes that come to a sum meet one part of it alone
+pub four_aside : (r a b c d : ℕ) → a < 256 → b < 256 → c < 256 → d < 256
+    → after_byte (after_byte (after_byte (after_byte r a) b) c) d ≡ bit_xor (remainder_after 32 r) (after_byte (after_byte (after_byte (after_byte 0 a) b) c) d)
+unfolding remainder_after
+four_aside r a b c d p q s t =
+    let one : ℕ = after_byte 0 a in
+    let two : ℕ = after_byte one b in
+    let three : ℕ = after_byte two c in
+    ap (λ k. after_byte (after_byte (after_byte (after_byte k a) b) c) d) (sym (xor_zero_r r))
+    ∙ ap (λ k. after_byte (after_byte (after_byte k b) c) d) (aside r 0 a p)
+    ∙ ap (λ k. after_byte (after_byte k c) d) (one_more 8 r one b q)
+    ∙ ap (λ k. after_byte k d) (one_more 16 r two c s)
+    ∙ one_more 24 r three d t
+
+-- four bytes, and four of zeros behind them
+pub four_and_zeros : (r a b c d : ℕ) → r < 2 ^ 32 → a < 256 → b < 256 → c < 256 → d < 256
+    → remainder_after 32 (after_byte (after_byte (after_byte (after_byte r a) b) c) d)
+    ≡ bit_xor (remainder_after 64 (bit_and (bit_xor r a) 0xff))
+    (bit_xor (remainder_after 56 (bit_and (bit_xor (r / 2 ^ 8) b) 0xff))
+    (bit_xor (remainder_after 48 (bit_and (bit_xor (r / 2 ^ 16) c) 0xff)) (remainder_after 40 (bit_and (bit_xor (r / 2 ^ 24) d) 0xff))))
+unfolding remainder_after
+four_and_zeros r a b c d small p q s t =
+    let u : ℕ = bit_and (bit_xor r a) 0xff in
+    let v : ℕ = bit_and (bit_xor (r / 2 ^ 8) b) 0xff in
+    let w : ℕ = bit_and (bit_xor (r / 2 ^ 16) c) 0xff in
+    let x : ℕ = bit_and (bit_xor (r / 2 ^ 24) d) 0xff in
+    ap (after_bits 32) (four_bytes r a b c d small p q s t)
+    ∙ linear 32 (after_bits 32 u) (bit_xor (after_bits 24 v) (bit_xor (after_bits 16 w) (after_bits 8 x)))
+    ∙ both _ _ _ _ (then_more 32 32 u)
+    (linear 32 (after_bits 24 v) (bit_xor (after_bits 16 w) (after_bits 8 x))
+    ∙ both _ _ _ _ (then_more 24 32 v) (linear 32 (after_bits 16 w) (after_bits 8 x) ∙ both _ _ _ _ (then_more 16 32 w) (then_more 8 32 x)))

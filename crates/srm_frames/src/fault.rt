@@ -12,7 +12,7 @@ pub enum RecordFault {
     /// It doesn't begin as a record does.
     #[error("no record")]
     Magic,
-    /// It is of a version that isn't known.
+    /// It is of a version that isn't known, or ends before its version.
     #[error("a record of another version")]
     Version,
     /// What it begins with is too short, a setting, the member or the moment of making is out of its range, or the checksum is another.

@@ -1,6 +1,6 @@
 //! Frames: a record has one for each line.
 
-ghost use Rattle.std.specs.Prelude.{◌≡◌, ◌≤◌, ◌++◌, length, take, drop, OnOk};
+ghost use Rattle.std.specs.Prelude.{◌≡◌, ◌<◌, ◌≤◌, ◌^◌, ◌++◌, length, take, drop, OnOk};
 ghost use Rattle.srm_frames.specs.Frames.{sealed, frame_fields, frame};
 
 use crate::checksum::crc_32;
@@ -21,9 +21,10 @@ pub struct Frame<'a> {
 /// Appends a frame to bytes: its kind, 1 to 8; its moment in microseconds, at most 2^48; its payload; and the checksum. It checks neither kind nor moment:
 /// [`read_record`](crate::read_record) refuses others.
 ///
-/// Fails with `AllocError` if out of memory, or if the payload has 2^32 bytes or more. `out` then begins with what it had; what follows is unspecified.
+/// Fails with `AllocError` if out of memory, or if the payload has 2^32 bytes or more. What `out` has then is unspecified.
 pub fn put_frame(out: &mut Vec<u8>, kind: u8, moment: u64, payload: &[u8]) -> Result<(), AllocError>
-    ensures { OnOk result (out.new.items ≡ out.old.items ++ frame kind moment payload.now) }
+    ensures frame { OnOk result (out.new.items ≡ out.old.items ++ frame kind moment payload.now) }
+    ensures fits { OnOk result (length payload.now < 2 ^ 32) }
 {
     let start = out.len();
     put_fields(out, kind, moment, payload)?;
@@ -31,7 +32,8 @@ pub fn put_frame(out: &mut Vec<u8>, kind: u8, moment: u64, payload: &[u8]) -> Re
 }
 
 fn put_fields(out: &mut Vec<u8>, kind: u8, moment: u64, payload: &[u8]) -> Result<(), AllocError>
-    ensures { OnOk result (out.new.items ≡ out.old.items ++ frame_fields kind moment payload.now) }
+    ensures fields { OnOk result (out.new.items ≡ out.old.items ++ frame_fields kind moment payload.now) }
+    ensures fits { OnOk result (length payload.now < 2 ^ 32) }
 {
     if payload.len() > LONGEST_PAYLOAD {
         return Err(AllocError);

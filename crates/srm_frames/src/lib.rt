@@ -10,9 +10,9 @@
 //! }
 //! ```
 //!
-//! A record is how a member began, and then a frame for each line: kind, moment, payload and checksum. `docs/RECORDS.md` has it byte by byte. A record may be cut at any byte: it is read up to its cut.
+//! A record is how a member began, and then a frame for each line: kind, moment, payload and checksum. `docs/RECORDS.md` has it byte by byte. A record may be cut at any byte behind its beginning: it is read up to its cut.
 //!
-//! **Errors.** [`read_record`] returns a [`RecordFault`] for bytes that are no record. [`put_line`] and [`beginning_bytes`] fail if out of memory.
+//! **Errors.** [`read_record`] returns a [`RecordFault`] for bytes that are no record. [`put_line`] and [`beginning_bytes`] fail if out of memory, and [`put_line`] for a payload of 2^32 bytes or more.
 #![tactic(auto)]
 
 mod beginning;
@@ -34,4 +34,4 @@ pub use fault::RecordFault;
 pub use frame::put_frame;
 pub use line::{Call, Line};
 pub use reading::{Record, RecordEnd, read_record};
-pub use spelling::{put_heard, put_line, put_lines};
+pub use spelling::{put_heard, put_line, put_lines, put_took};

@@ -1,4 +1,4 @@
-use Rattle.srm_frames.proofs.Fours.{four_at_once}
+use Rattle.srm_frames.proofs.Chunks.{four_at_once}
 use Rattle.srm_frames.proofs.checksum.after_four.Goals as goal
 
 pub returns : goal.returns
