@@ -30,6 +30,7 @@ mod roster;
 mod spellings;
 mod take;
 
+pub use found::gave_first;
 pub use got::Got;
 pub use laws::never_reached;
 pub use mismatch::Mismatch;

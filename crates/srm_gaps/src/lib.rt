@@ -21,4 +21,4 @@ mod told;
 
 pub use laws::{orders_are_told, refusals_hold, runs_go_on};
 pub use possible::first_stuck;
-pub use told::{Told, are_complete, are_of_one_session, journals_of};
+pub use told::{Told, are_complete, are_of_one_session, calls_told, journals_of};
