@@ -1,25 +1,24 @@
 -- A file that a record is written to, call by call.
-use Rattle.std.proofs.Common.{◌≡◌, ℕ, ◌+◌, ◌≤◌, Bool, true, false, List, [], ◌∷◌, ◌++◌, length, Option, Some, None, refl, sym, ap, subst, ◌∙◌, append_assoc, append-nil, length-append, arith}
+use Rattle.std.proofs.Common.{◌≡◌, ℕ, ◌+◌, ◌<◌, ◌≤◌, Bool, true, false, List, [], ◌∷◌, ◌++◌, length, Option, Some, None, refl, sym, ap, subst, ◌∙◌, append_assoc, append-nil, length-append, arith}
 use Rattle.std.specs.Prelude.{if◌then◌else◌}
-use Rattle.std.specs.List.{flat_map, filter_map, cons_option}
+use Rattle.std.specs.List.{cons_option}
 use Rattle.std.proofs.lemmas.Grind.{flat_map-append}
 use Rattle.std.proofs.lemmas.List.Elements.{filter_map-append}
 use Rattle.std.specs.Io.KnownBytes.{Appends}
-use Rattle.srm_names.specs.declared.page_msg.PageMsg.{PageMsg}
 use Rattle.srm_names.specs.Histories.{since}
 use Rattle.srm_names.proofs.Snoc.{since-snoc}
 use Rattle.srm_entries.specs.declared.entry.Entry.{Entry}
 use Rattle.srm_frames.specs.declared.beginning.Beginning.{Beginning}
 use Rattle.srm_frames.specs.declared.line.Line.{Line}
 use Rattle.srm_frames.specs.Beginnings.{beginning_text}
-use Rattle.srm_record.specs.Calls.{line_of, lines_of, last_after, last_recorded}
+use Rattle.srm_record.specs.Calls.{line_of, lines_of, last_after}
 use Rattle.srm_frames.specs.Lines.{line_text, lines_text}
-use Rattle.srm_record.specs.Takes.{takes_at, end_at}
-use Rattle.srm_record.specs.Records.{record_text, lines_so_far, record_of, last_of_record, whole_record}
+use Rattle.srm_record.specs.Records.{record_text, record_of, last_of_record}
 use Rattle.srm_output.specs.Writing.{AppendsAllBut, AppendsFront}
 use Rattle.srm_record.specs.Writing.{FileView, HasText, HasRecord, Adds, Writes, WritesIf, Notes, NotesIn, IsWritten, sends, text_if, call_text, text_since_sending}
+use Rattle.srm_record.specs.declared.record_file.TheConstants.{MOST_WAITING}
 use Rattle.srm_record.proofs.Snocs.{last_recorded-snoc}
-use Rattle.srm_output.proofs.Gathered.{none_of_all, all_of_all, front_of_none, front_of_some, front_of_more, all_but_on, front_on}
+use Rattle.srm_output.proofs.Gathered.{none_of_all, front_of_none, front_of_some, front_of_more, all_but_on, front_on}
 
 -- all of a text waits at first
 pub starts : (v : FileView) (text : List ℕ) → v.now ≡ v.first → (v.failed ≡ false → v.waiting ≡ text) → HasText v text
@@ -155,17 +154,19 @@ writes_now old new e writes = record {
   text = writes.text;
   works = writes.works;
   waits = λ fine. rw (writes.none_waits fine) (omega arith);
+  few = λ fine. rw (writes.none_waits fine) (omega arith);
   sent = λ fine _. writes.none_waits fine;
 }
 
-pub writes_later : (v : FileView) (e : Entry) (due : Bool) → (sends e ≡ true → due ≡ true) → due ≡ false → WritesIf v v e
-writes_later v e due must late = record {
+pub writes_later : (v : FileView) (e : Entry) (due : Bool) → (sends e ≡ true → due ≡ true) → (due ≡ false → length v.waiting < MOST_WAITING) → due ≡ false → WritesIf v v e
+writes_later v e due must few late = record {
   beginning = refl;
   first = refl;
   last = refl;
   text = λ text has. has;
   works = λ fine. fine;
   waits = λ fine. omega arith;
+  few = λ fine. few late;
   sent = λ fine sent. clash due (must sent) late;
 }
 
@@ -175,6 +176,7 @@ unfolding record_text
 begun old new b is last has writes = record {
   text = subst (λ (x : Beginning). HasText new (beginning_text x ++ [])) (sym (writes.beginning ∙ is)) (subst (HasText new) (sym (append-nil (beginning_text b))) (writes.text (beginning_text b) has));
   waits = λ fine. rw (writes.none_waits fine) (omega arith);
+  few = λ fine. rw (writes.none_waits fine) (omega arith);
   last = writes.last ∙ last ∙ ap (λ (x : Beginning). x.made) (sym (writes.beginning ∙ is));
 }
 
@@ -218,8 +220,9 @@ pub goes_on : (old new : FileView) (e : Entry) → new.beginning ≡ old.beginni
     → ((text : List ℕ) → HasText old text → HasText new (text ++ call_text old.beginning.config.session e))
     → (new.failed ≡ false → old.failed ≡ false) → (new.failed ≡ false → sends e ≡ true → new.waiting ≡ [])
     → (new.failed ≡ false → length new.waiting ≤ length old.waiting + length (call_text old.beginning.config.session e))
+    → (new.failed ≡ false → length new.waiting < MOST_WAITING)
     → Notes old new e
-goes_on old new e beginning first last text works none few = record {
+goes_on old new e beginning first last text works none more few = record {
   beginning = beginning;
   first = first;
   record_goes_on = λ es has. (
@@ -231,8 +234,9 @@ goes_on old new e beginning first last text works none few = record {
         text = subst (HasText new) longer (text (record_of b es) has.text);
         waits = λ fine. (
             let all : length new.waiting ≤ length (if sends e then [] else text_since_sending b es ++ call_text s e) =
-            waits_still (sends e) new.waiting (text_since_sending b es) (call_text s e) (length old.waiting) (none fine) (few fine) (has.waits (works fine)) in
+            waits_still (sends e) new.waiting (text_since_sending b es) (call_text s e) (length old.waiting) (none fine) (more fine) (has.waits (works fine)) in
             subst (λ (bytes : List ℕ). length new.waiting ≤ length bytes) (sym (since_sending-snoc b es e) ∙ ap (λ (x : Beginning). text_since_sending x (es ++ e ∷ [])) (sym beginning)) all);
+        few = few;
         last = last ∙ ap (λ (l : ℕ). last_after l e) has.last ∙ sym (last_recorded-snoc b.made es e) ∙ ap (λ (x : Beginning). last_of_record x (es ++ e ∷ [])) (sym beginning);
       });
 }
@@ -245,43 +249,7 @@ noted old mid new e last adds writes is =
     (λ fine. adds.works (writes.works fine))
     (λ fine sent. writes.sent fine sent)
     (λ fine. omega (arith, writes.waits fine, adds.waits (writes.works fine)))
-
--- ---- the end
-
-abbrev pub end_lines : ℕ → List (List PageMsg) → List Line
-end_lines last lists = takes_at last lists ++ end_at last ∷ []
-
-whole_is : (b : Beginning) (es : List Entry) (lists : List (List PageMsg)) → record_of b es ++ lines_text (end_lines (last_of_record b es) lists) ≡ whole_record b es lists
-unfolding record_text
-whole_is b es lists =
-    let so_far = lines_so_far b es in
-    let takes = takes_at (last_of_record b es) lists in
-    let end = end_at (last_of_record b es) ∷ [] in
-    append_assoc (beginning_text b) (lines_text so_far) (lines_text (takes ++ end))
-    ∙ ap (λ (bytes : List ℕ). beginning_text b ++ bytes) (sym (flat_map-append line_text so_far (takes ++ end)))
-    ∙ ap (λ (lines : List Line). beginning_text b ++ lines_text lines) (sym (append_assoc so_far takes end))
-
-ended_text : (old mid new : FileView) (lists : List (List PageMsg)) → Adds old mid (lines_text (end_lines old.last lists)) → Writes mid new → (es : List Entry)
-    → HasRecord old es → HasText new (whole_record old.beginning es lists)
-ended_text old mid new lists adds writes es has =
-    let b = old.beginning in
-    let same : record_of b es ++ lines_text (end_lines old.last lists) ≡ whole_record b es lists =
-    ap (λ (l : ℕ). record_of b es ++ lines_text (end_lines l lists)) has.last ∙ whole_is b es lists in
-    subst (HasText new) same (writes.text (record_of b es ++ lines_text (end_lines old.last lists)) (adds.text (record_of b es) has.text))
-
-pub ended_whole : (old mid new : FileView) (lists : List (List PageMsg)) → Adds old mid (lines_text (end_lines old.last lists)) → Writes mid new → new.failed ≡ false
-    → (es : List Entry) → HasRecord old es → Appends old.first new.now (whole_record old.beginning es lists)
-ended_whole old mid new lists adds writes fine es has =
-    let text = whole_record old.beginning es lists in
-    let all = (ended_text old mid new lists adds writes es has).whole fine in
-    subst (λ (a : Option (List ℕ)). Appends a new.now text) (writes.first ∙ adds.first)
-    (all_of_all new.first new.now text new.waiting all (ap length (writes.none_waits fine)))
-
-pub ended_front : (old mid new : FileView) (lists : List (List PageMsg)) → Adds old mid (lines_text (end_lines old.last lists)) → Writes mid new
-    → (es : List Entry) → HasRecord old es → AppendsFront old.first new.now (whole_record old.beginning es lists)
-ended_front old mid new lists adds writes es has =
-    subst (λ (a : Option (List ℕ)). AppendsFront a new.now (whole_record old.beginning es lists)) (writes.first ∙ adds.first)
-    (ended_text old mid new lists adds writes es has).front
+    (λ fine. writes.few fine)
 
 -- ---- a file that may be there
 

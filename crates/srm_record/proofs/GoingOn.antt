@@ -1,5 +1,5 @@
 -- Each call of a recorder goes on from where it was.
-use Rattle.std.proofs.Common.{◌≡◌, ℕ, ap, ◌∙◌, sym, inl, inr, refl}
+use Rattle.std.proofs.Common.{◌≡◌, ℕ, ap, ◌∙◌, inl, inr}
 use Rattle.std.specs.Prelude.{Option, Result, List}
 use Rattle.srm_entries.specs.declared.fault.AgentFault.{AgentFault}
 use Rattle.srm_entries.specs.declared.entry.Entry.{Entry}

@@ -2,6 +2,7 @@ mod Snocs
 mod GoingOn
 mod Elements
 mod Filing
+mod Ending
 mod Recorded
 mod Making
 mod Taken

@@ -1,13 +1,13 @@
 -- What a recorder's call adds to its journal, made anew.
-use Rattle.std.proofs.Common.{◌≡◌, ℕ, ◌+◌, ◌<◌, ◌≤◌, min, max, Bool, true, false, List, [], ◌∷◌, ◌++◌, length, get_or, take, refl, ap, sym, ◌∙◌, subst, inl, inr, arith}
-use Rattle.std.specs.Prelude.{Option, Some, None, Result, Ok, Err, OnOk, if◌then◌else◌}
+use Rattle.std.proofs.Common.{◌≡◌, ℕ, ◌+◌, ◌<◌, ◌≤◌, min, max, Bool, true, false, List, [], ◌∷◌, ◌++◌, length, get_or, take, drop, append_assoc, append-nil, length-append, refl, ap, sym, ◌∙◌, subst, inl, inr, arith}
+use Rattle.std.specs.Prelude.{Option, Some, None, Result, Ok, Err, OnOk, nat_lt, MatchBool, ◌⊎◌, if◌then◌else◌}
 use Rattle.std.specs.List.{flat_map}
+use Rattle.std.proofs.lemmas.Bool.{ltb-false}
+use Rattle.std.proofs.Math.Seq.{drop-append_seam}
 use Rattle.std.proofs.lemmas.Grind.{flat_map-append}
-use Rattle.srm_names.specs.declared.limits.TheConstants.{LATEST_MOMENT}
+use Rattle.srm_names.specs.declared.limits.TheConstants.{LATEST_MOMENT, PAGES}
 use Rattle.srm_names.specs.Histories.{greatest}
 use Rattle.srm_names.proofs.Lists.{greatest-append}
-use Rattle.srm_codec.specs.declared.datagram.Datagram.{Datagram}
-use Rattle.srm_codec.specs.declared.fault.DecodeFault.{DecodeFault}
 use Rattle.srm_codec.specs.declared.fault.DecodeFault.TheVariants.{Short}
 use Rattle.srm_codec.specs.Judging.{judge, magic_at, prefix_at}
 use Rattle.srm_entries.specs.declared.fault.AgentFault.{AgentFault}
@@ -25,10 +25,13 @@ use Rattle.srm_entries.specs.Hearing.{read_as, bytes_heard}
 use Rattle.srm_entries.proofs.Running.{last_moment-snoc}
 use Rattle.srm_agent.specs.declared.heard.Heard.{Heard}
 use Rattle.srm_world.specs.Traces.{Journal}
-use Rattle.srm_world.specs.Recording.{Records, RecordsHeard, with_entry}
+use Rattle.srm_world.specs.Recording.{Records, RecordsHeard, Grows}
 use Rattle.srm_frames.specs.declared.line.Line.{Line}
 use Rattle.srm_frames.proofs.Elements.{taken_more}
 use Rattle.srm_record.specs.Making.{Gains, GainsHeard, GainsGiven, Waits, Makes, MakesAll}
+use Rattle.srm_frames.specs.declared.line.Call.{Call}
+use Rattle.srm_frames.specs.declared.line.Call.TheVariants as calls
+use Rattle.srm_world.specs.declared.start.Start.{Start}
 
 -- a call that memory was there for
 
@@ -71,36 +74,106 @@ noise_counts c es e is =
     let verdict : e.verdict ≡ Ignored cause = ap (λ (p : Input × Verdict). p.1) (is ∙ heard) in
     ap (λ v. moments_counted v e) verdict ∙ ap (λ i. if takes_moment i then e.moment ∷ [] else []) input
 
-waits_heard : (now : ℕ) (j k : Journal) → GainsHeard now [] j k → Waits now j k
-waits_heard now j k h =
+-- The moment has come, perhaps with noise.
+pub record HasCome (now : ℕ) (j k : Journal) : Type 0 where
+  pub waited : (k ≡ j) ⊎ GainsHeard now [] j k
+  pub come : now ≤ last_moment k.start.made k.entries
+
+come_heard : (now : ℕ) (j k : Journal) → GainsHeard now [] j k → HasCome now j k
+come_heard now j k h =
     let late : h.entry.moment ≡ max now (last_moment j.start.made j.entries) = h.grows.moment in
     let come : now ≤ last_moment j.start.made (j.entries ++ h.entry ∷ []) = counted j.start.made now j.entries h.entry (noise_counts j.start.config j.entries h.entry h.is) (omega arith) in
     record { waited = inr h; come = subst (λ (x : Journal). now ≤ last_moment x.start.made x.entries) (sym h.grows.grown) come }
 
-pub made_wait : {E : Type 0} (now : ℕ) (j k : Journal) (answer : Result Heard AgentFault) (r : Result (Unit {0}) E) → RecordsHeard now [] j k answer → OnOk r (answer ≡ Err Memory → ⊥) → OnOk r (Waits now j k)
-made_wait now j k answer (Ok u) records made = waits_heard now j k (gains_heard now [] j k answer records made)
-made_wait now j k answer (Err e) records made = tt
+come_before : (now : ℕ) (j k : Journal) → k ≡ j → now ≤ last_moment j.start.made j.entries → HasCome now j k
+come_before now j k same come = record { waited = inl same; come = subst (λ (x : Journal). now ≤ last_moment x.start.made x.entries) (sym same) come }
 
-pub waits_none : (now : ℕ) (j k : Journal) → k ≡ j → ((made : ℕ) → now ≤ last_moment made j.entries) → Waits now j k
-waits_none now j k same come = record { waited = inl same; come = subst (λ (x : Journal). now ≤ last_moment x.start.made x.entries) (sym same) (come j.start.made) }
+pub has_come : (now : ℕ) (j k : Journal) → Waits now j k → HasCome now j k
+has_come now j k waits = go (nat_lt (last_moment j.start.made j.entries) now) refl waits
+  where
+    go : (b : Bool) → nat_lt (last_moment j.start.made j.entries) now ≡ b → MatchBool b (GainsHeard now [] j k) (k ≡ j) → HasCome now j k
+    go true q heard = come_heard now j k heard
+    go false q same = come_before now j k same (ltb-false (last_moment j.start.made j.entries) now q)
+
+as_judged : (A B : Type 0) (b c : Bool) → b ≡ c → MatchBool b A B → MatchBool c A B
+as_judged A B b c same = subst (λ (x : Bool). MatchBool x A B) same
+
+pub waits_heard : {E : Type 0} (now clock : ℕ) (j k : Journal) (answer : Result Heard AgentFault) (r : Result (Unit {0}) E) → clock ≡ last_moment j.start.made j.entries → nat_lt clock now ≡ true
+    → RecordsHeard now [] j k answer → OnOk r (answer ≡ Err Memory → ⊥) → OnOk r (Waits now j k)
+waits_heard now clock j k answer (Ok u) is late records made =
+    as_judged (GainsHeard now [] j k) (k ≡ j) true _ (sym (ap (λ n. nat_lt n now) (sym is) ∙ late)) (gains_heard now [] j k answer records made)
+waits_heard now clock j k answer (Err e) is late records made = tt
+
+pub waits_none : (now clock : ℕ) (j k : Journal) → clock ≡ last_moment j.start.made j.entries → nat_lt clock now ≡ false → k ≡ j → Waits now j k
+waits_none now clock j k is early same = as_judged (GainsHeard now [] j k) (k ≡ j) false _ (sym (ap (λ n. nat_lt n now) (sym is) ∙ early)) same
 
 pub made_give : {A E : Type 0} (now slot : ℕ) (is : Entry → A → Type 0) (j mid k : Journal) (answer : Result A AgentFault) (r : Result (Unit {0}) E) → Waits now j mid → Records None (Gave slot) is mid k answer → OnOk r (answer ≡ Err Memory → ⊥) → OnOk r (GainsGiven now slot j k)
 made_give now slot is j mid k answer (Ok u) waits records made = record { between = mid; waits = waits; gains = gains None (Gave slot) is mid k answer records made }
 made_give now slot is j mid k answer (Err e) waits records made = tt
 
--- an entry that counts, before others
+-- what a call added
 
-later_counts : (made : ℕ) (es : List Entry) (fs : List Entry) → last_moment made es ≤ last_moment made (es ++ fs)
-later_counts made es fs =
-    let grown : last_moment made (es ++ fs) ≡ max (last_moment made es) (greatest (flat_map (λ (e : Entry). moments_counted e.verdict e) fs)) =
-    ap (λ ns. greatest (made ∷ ns)) (flat_map-append (λ (e : Entry). moments_counted e.verdict e) es fs) ∙ greatest-append (made ∷ flat_map (λ (e : Entry). moments_counted e.verdict e) es) (flat_map (λ (e : Entry). moments_counted e.verdict e) fs) in
+pub record Added (j k : Journal) : Type 0 where
+  pub more : List Entry
+  pub grown : k.entries ≡ j.entries ++ more
+
+one_added : (at : Option ℕ) (j k : Journal) (e : Entry) → Grows at j k e → Added j k
+one_added at j k e grows = record { more = e ∷ []; grown = ap (λ (x : Journal). x.entries) grows.grown }
+
+none_added : (j k : Journal) → k ≡ j → Added j k
+none_added j k same = record { more = []; grown = ap (λ (x : Journal). x.entries) same ∙ sym (append-nil j.entries) }
+
+both_added : (j mid k : Journal) → Added j mid → Added mid k → Added j k
+both_added j mid k one two = record { more = one.more ++ two.more; grown = two.grown ∙ ap (λ es. es ++ two.more) one.grown ∙ append_assoc j.entries one.more two.more }
+
+waited_added : (now : ℕ) (j k : Journal) (b : Bool) → MatchBool b (GainsHeard now [] j k) (k ≡ j) → Added j k
+waited_added now j k true h = one_added (Some now) j k h.entry h.grows
+waited_added now j k false same = none_added j k same
+
+given_added : (now slot : ℕ) (j k : Journal) (b : Bool) → MatchBool b (GainsGiven now slot j k) (k ≡ j) → Added j k
+given_added now slot j k true g =
+    both_added j g.between k (waited_added now j g.between (nat_lt (last_moment j.start.made j.entries) now) g.waits) (one_added None g.between k g.gains.entry g.gains.grows)
+given_added now slot j k false same = none_added j k same
+
+added : (now : ℕ) (call : Call) (j k : Journal) → Makes now call j k → Added j k
+added now (calls.Drew page body) j k g = one_added (Some now) j k g.entry g.grows
+added now (calls.Heard bytes) j k g = one_added (Some now) j k g.entry g.grows
+added now calls.Ticked j k g = one_added (Some now) j k g.entry g.grows
+added now (calls.Showed page) j k g = one_added (Some now) j k g.entry g.grows
+added now calls.AskedLeave j k g = one_added (Some now) j k g.entry g.grows
+added now (calls.Gave slot) j k g = given_added now slot j k (nat_lt slot PAGES) g
+added now (calls.Took slot message) j k same = none_added j k same
+added now calls.Ended j k same = none_added j k same
+
+pub no_fewer : (now : ℕ) (call : Call) (j k : Journal) → Makes now call j k → length j.entries ≤ length k.entries
+no_fewer now call j k makes =
+    let a = added now call j k makes in
+    let count : length k.entries ≡ length j.entries + length a.more = ap length a.grown ∙ length-append j.entries a.more in
     omega arith
 
-pub has_come_by : (now : ℕ) (before after all : List Entry) (e : Entry) → (before ++ e ∷ []) ++ after ≡ all → moments_counted e.verdict e ≡ e.moment ∷ [] → now ≤ e.moment → (made : ℕ) → now ≤ last_moment made all
-has_come_by now before after all e parts is l made =
-    let here : now ≤ last_moment made (before ++ e ∷ []) = counted made now before e is l in
-    let grown : last_moment made (before ++ e ∷ []) ≤ last_moment made ((before ++ e ∷ []) ++ after) = later_counts made (before ++ e ∷ []) after in
-    subst (λ es. now ≤ last_moment made es) parts (omega arith)
+last_moment-append : (made : ℕ) (es fs : List Entry) → last_moment made (es ++ fs) ≡ last_moment (last_moment made es) fs
+last_moment-append made es fs =
+    let counts : List Entry → List ℕ = flat_map (λ (e : Entry). moments_counted e.verdict e) in
+    let grown : greatest (made ∷ counts (es ++ fs)) ≡ max (greatest (made ∷ counts es)) (greatest (counts fs)) =
+    ap (λ ns. greatest (made ∷ ns)) (flat_map-append (λ (e : Entry). moments_counted e.verdict e) es fs) ∙ greatest-append (made ∷ counts es) (counts fs) in
+    grown
+
+-- entry by entry
+pub one_clock_more : (clock now new at : ℕ) (es : List Entry) (e : Entry) → at < length es → e ≡ get_or es at e → now ≡ last_moment clock (take at es)
+    → new ≡ greatest (now ∷ moments_counted e.verdict e) → new ≡ last_moment clock (take (at + 1) es)
+one_clock_more clock now new at es e there is so more =
+    more ∙ ap (λ n. max n (greatest (moments_counted e.verdict e))) so ∙ sym (last_moment-snoc clock (take at es) e) ∙ ap (last_moment clock) (sym (taken_more es at e there is))
+
+-- the clock goes on by what a call added
+pub clock_goes_on : (now clock : ℕ) (call : Call) (j k : Journal) → clock ≡ last_moment j.start.made j.entries → k.start ≡ j.start → Makes now call j k
+    → last_moment clock (drop (length j.entries) k.entries) ≡ last_moment k.start.made k.entries
+clock_goes_on now clock call j k is start makes =
+    let a = added now call j k makes in
+    ap (λ es. last_moment clock (drop (length j.entries) es)) a.grown
+    ∙ ap (last_moment clock) (drop-append_seam j.entries a.more)
+    ∙ ap (λ n. last_moment n a.more) is
+    ∙ sym (last_moment-append j.start.made j.entries a.more)
+    ∙ sym (ap (λ (x : Start). last_moment x.made k.entries) start ∙ ap (last_moment j.start.made) a.grown)
 
 -- line by line
 

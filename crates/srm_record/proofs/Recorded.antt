@@ -1,6 +1,6 @@
 -- The lines of a record tell which calls it has: their moments and what the member was handed.
 use Rattle.std.proofs.Common.{◌≡◌, ℕ, ◌<◌, ◌^◌, Bool, true, false, ◌&&◌, List, [], ◌∷◌, ◌++◌, map, refl, ap, sym, ◌∙◌}
-use Rattle.std.specs.Prelude.{Option, Some, None, Result, Ok, Err, IfSome, if◌then◌else◌}
+use Rattle.std.specs.Prelude.{Some, None, Result, Ok, Err, IfSome, if◌then◌else◌}
 use Rattle.std.specs.List.{cons_option, AllByRecursion}
 use Rattle.srm_names.specs.Histories.{steps_after}
 use Rattle.srm_codec.specs.declared.datagram.Datagram.{Datagram}

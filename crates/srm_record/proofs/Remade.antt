@@ -1,11 +1,11 @@
 -- Where a run has a record's lines, its calls made anew are that run's: what acts in the one acts in the other.
-use Rattle.std.proofs.Common.{◌≡◌, ℕ, ◌+◌, ◌<◌, ◌≤◌, ◌^◌, min, max, Bool, true, false, ◌&&◌, List, [], ◌∷◌, ◌++◌, length, refl, ap, sym, ◌∙◌, subst, inl, inr, arith, append_assoc, append-nil}
-use Rattle.std.specs.Prelude.{◌⊎◌, Option, Some, None, Result, Ok, Err, IfSome, if◌then◌else◌, MatchBool, unwrap_or}
+use Rattle.std.proofs.Common.{◌≡◌, ℕ, ◌<◌, ◌≤◌, ◌^◌, min, max, Bool, true, false, ◌&&◌, List, [], ◌∷◌, ◌++◌, refl, ap, sym, ◌∙◌, subst, inl, inr, arith, append_assoc, append-nil}
+use Rattle.std.specs.Prelude.{◌⊎◌, Option, Some, None, Ok, IfSome, if◌then◌else◌, MatchBool}
 use Rattle.std.specs.List.{AllByRecursion, cons_option}
+use Rattle.std.proofs.lemmas.Bool.{lt-ltb}
 use Rattle.std.proofs.lemmas.Option.{none-some, same_Some}
 use Rattle.srm_names.specs.declared.limits.TheConstants.{LATEST_MOMENT, PAGES}
-use Rattle.srm_names.specs.Histories.{steps_after, greatest, last_of, or_else}
-use Rattle.srm_names.proofs.Snoc.{or_else-none}
+use Rattle.srm_names.specs.Histories.{steps_after, greatest}
 use Rattle.srm_codec.specs.declared.datagram.Datagram.{Datagram}
 use Rattle.srm_codec.specs.Spelling.{spelling, IsSpellable}
 use Rattle.srm_codec.specs.Judging.{judge}
@@ -20,7 +20,7 @@ use Rattle.srm_entries.specs.declared.entry.Verdict.TheVariants.{Done, Ignored, 
 use Rattle.srm_entries.specs.Configs.{Config}
 use Rattle.srm_entries.specs.Entries.{done_input, heard_in, accepted, state, is_gone, takes_moment, moments_counted, last_moment}
 use Rattle.srm_entries.specs.Hearing.{read_as, bytes_heard}
-use Rattle.srm_entries.specs.Runs.{EntryRight, MomentRight}
+use Rattle.srm_entries.specs.Runs.{EntryRight}
 use Rattle.srm_entries.proofs.Running.{last_moment-snoc}
 use Rattle.srm_world.specs.declared.start.Start.{Start}
 use Rattle.srm_world.specs.Traces.{Journal}
@@ -34,8 +34,8 @@ use Rattle.srm_frames.specs.declared.line.Call.{Call}
 use Rattle.srm_frames.specs.declared.line.Call.TheVariants as calls
 use Rattle.srm_frames.specs.WhatIsRead.{IsCall, IsLine}
 use Rattle.srm_record.specs.Calls.{call_of as line_call, at_moment, line_of, lines_of}
-use Rattle.srm_record.specs.Making.{Gains, GainsHeard, GainsGiven, Waits, Makes, MakesAll}
-use Rattle.srm_record.proofs.Making.{nothing_heard}
+use Rattle.srm_record.specs.Making.{Gains, GainsHeard, GainsGiven, Makes, MakesAll}
+use Rattle.srm_record.proofs.Making.{nothing_heard, HasCome, has_come}
 use Rattle.srm_record.proofs.Recorded.{IsRead, all_read}
 
 -- one line
@@ -140,17 +140,23 @@ behind_noise e z j between k at grows noise s =
     }
 
 by_give : (e : Entry) (slot : ℕ) (j k : Journal) → e.input ≡ Gave slot → last_moment j.start.made j.entries ≤ e.moment → GainsGiven e.moment slot j k → Steps e j k
-by_give e slot j k same l g = go g.waits.waited
+by_give e slot j k same l g = go came.waited
   where
+    came : HasCome e.moment j g.between
+    came = has_come e.moment j g.between g.waits
+
     go : ((g.between ≡ j) ⊎ GainsHeard e.moment [] j g.between) → Steps e j k
     go (inl still) =
-        given_at_once e slot j k same l (subst (λ (x : Journal). e.moment ≤ last_moment x.start.made x.entries) still g.waits.come) (subst (λ (x : Journal). Gains None (Gave slot) x k) still g.gains)
+        given_at_once e slot j k same l (subst (λ (x : Journal). e.moment ≤ last_moment x.start.made x.entries) still came.come) (subst (λ (x : Journal). Gains None (Gave slot) x k) still g.gains)
     go (inr h) =
         let late : h.entry.moment ≡ max e.moment (last_moment j.start.made j.entries) = h.grows.moment in
         let m : last_moment g.between.start.made g.between.entries ≤ e.moment = last_of_grown e.moment (Some e.moment) j g.between h.entry h.grows l (omega arith) in
-        behind_noise e h.entry j g.between k (Some e.moment) h.grows (is_noise_then j.start.config j.entries h.entry h.is) (given_at_once e slot g.between k same m g.waits.come g.gains)
+        behind_noise e h.entry j g.between k (Some e.moment) h.grows (is_noise_then j.start.config j.entries h.entry h.is) (given_at_once e slot g.between k same m came.come g.gains)
 
 -- an entry that acts, and the call of its line
+
+is_there : (A B : Type 0) (b : Bool) → b ≡ true → MatchBool b A B → A
+is_there A B b e = subst (λ (x : Bool). MatchBool x A B) e
 
 never : (v : Verdict) → (is_done v && false) ≡ true → ⊥
 never Done e = absurd (cc)
@@ -191,7 +197,7 @@ module _ (e : Entry) (j k : Journal) (small : j.start.config.session < 2 ^ 32) (
   step AskedLeave call same is fits makes = by_gain e AskedLeave j k same l (as_is e.moment calls.AskedLeave call is makes)
   step (Gave slot) call same is fits makes =
       let inside : slot < PAGES = subst IsCall (sym (same_Some (calls.Gave slot) call is)) fits in
-      by_give e slot j k same l (as_is e.moment (calls.Gave slot) call is makes inside)
+      by_give e slot j k same l (is_there (GainsGiven e.moment slot j k) (k ≡ j) _ (lt-ltb slot PAGES inside) (as_is e.moment (calls.Gave slot) call is makes))
   step (Took slot) call same is fits makes = absurd (none-some call is)
 
 -- lines one behind the other

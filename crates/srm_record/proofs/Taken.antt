@@ -1,5 +1,5 @@
 -- The lines behind the calls of a record tell what its page workers took.
-use Rattle.std.proofs.Common.{◌≡◌, ◌≢◌, ℕ, zero, suc, ◌+◌, ◌<◌, ◌≤◌, ◌==◌, Bool, true, false, List, [], ◌∷◌, ◌++◌, map, length, refl, ap, sym, ◌∙◌, arith, append-nil, eq-eqb}
+use Rattle.std.proofs.Common.{◌≡◌, ◌≢◌, ℕ, zero, suc, ◌+◌, ◌<◌, Bool, true, false, List, [], ◌∷◌, ◌++◌, map, length, refl, ap, sym, ◌∙◌, arith, append-nil, eq-eqb}
 use Rattle.std.specs.Prelude.{Option, Some, None, if◌then◌else◌}
 use Rattle.std.specs.List.{filter_map, flat_map, cons_option, enumerate_from}
 use Rattle.std.proofs.lemmas.Bool.{ne_eqb}
@@ -13,7 +13,7 @@ use Rattle.srm_entries.specs.declared.entry.Input.TheVariants.{Drew, Heard, Nois
 use Rattle.srm_replays.specs.Calls.{acts}
 use Rattle.srm_frames.specs.declared.line.Line.{Line}
 use Rattle.srm_record.specs.Calls.{call_of, at_moment, line_of, lines_of}
-use Rattle.srm_record.specs.Takes.{slot_lines, listed_lines, takes_at, end_at, took_in, list_in, lists_in}
+use Rattle.srm_record.specs.Takes.{slot_lines, listed_lines, takes_at, took_in, list_in, lists_in}
 
 -- the lines of calls have none
 

@@ -1,10 +1,10 @@
 -- A record whose calls, made anew, make another record is of no run.
-use Rattle.std.proofs.Common.{◌≡◌, ℕ, ◌+◌, ◌<◌, ◌≤◌, min, Bool, true, false, List, [], ◌∷◌, ◌++◌, length, refl, ap, sym, ◌∙◌, subst, inl, inr, arith, append_assoc, append-nil}
+use Rattle.std.proofs.Common.{◌≡◌, ℕ, ◌+◌, ◌<◌, ◌≤◌, min, Bool, true, false, List, [], ◌∷◌, ◌++◌, refl, ap, sym, ◌∙◌, subst, arith, append_assoc, append-nil}
 use Rattle.std.specs.Prelude.{Option, Some, None, unwrap_or, if◌then◌else◌}
-use Rattle.std.specs.List.{AllByRecursion, cons_option, flat_map, enumerate_from}
+use Rattle.std.specs.List.{AllByRecursion, flat_map, enumerate_from}
 use Rattle.rand_pcg.specs.Lcg.{Lcg}
 use Rattle.rand_pcg.specs.Pcg.{pcg64}
-use Rattle.srm_names.specs.declared.limits.TheConstants.{LATEST_MOMENT, PAGES}
+use Rattle.srm_names.specs.declared.limits.TheConstants.{LATEST_MOMENT}
 use Rattle.srm_names.specs.declared.page_msg.PageMsg.{PageMsg}
 use Rattle.srm_names.specs.Histories.{last_of, or_else}
 use Rattle.srm_names.proofs.Snoc.{or_else-none}
@@ -28,9 +28,8 @@ use Rattle.srm_frames.specs.Lines.{lines_text}
 use Rattle.srm_frames.specs.WhatIsRead.{IsLine}
 use Rattle.srm_record.specs.Calls.{lines_of, moment_of_acting, last_recorded}
 use Rattle.srm_record.specs.Takes.{slot_lines, listed_lines, takes_at, end_at, list_in, lists_in}
-use Rattle.srm_record.specs.Records.{lines_so_far, last_of_record, lines_with_takes, whole_lines}
 use Rattle.srm_record.specs.Making.{Makes, MakesAll}
-use Rattle.srm_record.specs.Replays.{start_of, lines_told, IsRecordOf, IsSpelled, IsOfNoRun, TellsOfRuns}
+use Rattle.srm_record.specs.Replays.{start_of, lines_told, IsOfNoRun, TellsOfRuns}
 use Rattle.srm_record.proofs.Remade.{lines_by_acting, from_start}
 use Rattle.srm_record.proofs.Taken.{lists_told}
 

@@ -1,5 +1,5 @@
 -- What making a call anew does to the journal of a recorder.
-use Rattle.std.specs.Prelude.{◌≡◌, ◌⊎◌, ℕ, ◌<◌, ◌≤◌, min, List, [], ◌∷◌, Option, Some, None}
+use Rattle.std.specs.Prelude.{◌≡◌, ℕ, nat_lt, min, List, [], ◌∷◌, Option, Some, None, MatchBool}
 use Rattle.srm_names.specs.declared.limits.TheConstants.{LATEST_MOMENT, PAGES}
 use Rattle.srm_entries.specs.declared.entry.Entry.{Entry}
 use Rattle.srm_entries.specs.declared.entry.Input.{Input}
@@ -24,25 +24,24 @@ pub record GainsHeard (now : ℕ) (bytes : List ℕ) (old new : Journal) : Type 
   pub grows : Grows (Some now) old new entry
   pub is : (entry.input, entry.verdict) ≡ bytes_heard old.start.config old.entries bytes
 
--- the moment has come; there may be one more entry, of no bytes
-pub record Waits (now : ℕ) (old new : Journal) : Type 0 where
-  pub waited : (new ≡ old) ⊎ GainsHeard now [] old new
-  pub come : now ≤ last_moment new.start.made new.entries
+-- Bytes come that are none, if the moment hadn't come.
+abbrev pub Waits : ℕ → Journal → Journal → Type 0
+Waits now old new = MatchBool (nat_lt (last_moment old.start.made old.entries) now) (GainsHeard now [] old new) (new ≡ old)
 
--- the moment has come, and the next message of the slot was asked for
+-- the moment came, and the next message of the slot was asked for
 pub record GainsGiven (now slot : ℕ) (old new : Journal) : Type 0 where
   pub between : Journal
   pub waits : Waits now old between
   pub gains : Gains None (Gave slot) between new
 
--- the call was made at a moment
+-- the call was made at a moment, or there is no such slot
 abbrev pub Makes : ℕ → Call → Journal → Journal → Type 0
 Makes now (calls.Drew page body) old new = Gains (Some now) (Drew page body) old new
 Makes now (calls.Heard bytes) old new = GainsHeard now bytes old new
 Makes now calls.Ticked old new = Gains (Some now) Ticked old new
 Makes now (calls.Showed page) old new = Gains (Some now) (Showed page) old new
 Makes now calls.AskedLeave old new = Gains (Some now) AskedLeave old new
-Makes now (calls.Gave slot) old new = slot < PAGES → GainsGiven now slot old new
+Makes now (calls.Gave slot) old new = MatchBool (nat_lt slot PAGES) (GainsGiven now slot old new) (new ≡ old)
 Makes now (calls.Took slot message) old new = new ≡ old
 Makes now calls.Ended old new = new ≡ old
 

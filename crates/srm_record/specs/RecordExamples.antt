@@ -1,6 +1,5 @@
 -- The worked record of docs/RECORDS.md, by the definitions.
-use Rattle.std.specs.Prelude.{◌≡◌, ℕ, List, [], ◌∷◌, ◌++◌, Some, refl}
-use Rattle.srm_names.specs.declared.page_msg.PageMsg.{PageMsg}
+use Rattle.std.specs.Prelude.{◌≡◌, ℕ, [], ◌∷◌, Some, refl}
 use Rattle.srm_names.specs.declared.page_msg.PageMsg.TheVariants as messages
 use Rattle.srm_names.specs.Names.{first_page}
 use Rattle.srm_codec.specs.declared.datagram.Datagram.TheVariants.{Data}

@@ -1,10 +1,11 @@
 -- What a file got of a record, and what waits to be written.
-use Rattle.std.specs.Prelude.{◌≡◌, ℕ, ◌+◌, ◌≤◌, Bool, true, false, not, List, [], ◌∷◌, ◌++◌, length, Option, Some, None, IfSome}
+use Rattle.std.specs.Prelude.{◌≡◌, ℕ, ◌+◌, ◌<◌, ◌≤◌, Bool, true, false, not, List, [], ◌∷◌, ◌++◌, length, Option, Some, None, IfSome}
 use Rattle.srm_names.specs.Histories.{since}
 use Rattle.srm_output.specs.Writing.{AppendsAllBut, AppendsFront}
 use Rattle.srm_entries.specs.declared.entry.Entry.{Entry}
 use Rattle.srm_frames.specs.declared.beginning.Beginning.{Beginning}
 use Rattle.srm_frames.specs.declared.line.Line.{Line}
+use Rattle.srm_record.specs.declared.record_file.TheConstants.{MOST_WAITING}
 use Rattle.srm_replays.specs.Calls.{is_empty}
 use Rattle.srm_record.specs.Calls.{line_of, lines_of}
 use Rattle.srm_frames.specs.Lines.{line_text, lines_text}
@@ -41,10 +42,11 @@ call_text session e = text_if (line_of session e)
 abbrev pub text_since_sending : Beginning → List Entry → List ℕ
 text_since_sending b es = lines_text (lines_of b.config.session (since sends es))
 
--- The file has the record of these calls. Of the calls up to the last one that sends, nothing waits.
+-- The file has the record of these calls. Of the calls up to the last one that sends, nothing waits; of the others, less than so many bytes.
 pub record HasRecord (v : FileView) (es : List Entry) : Type 0 where
   pub text : HasText v (record_of v.beginning es)
   pub waits : v.failed ≡ false → length v.waiting ≤ length (text_since_sending v.beginning es)
+  pub few : v.failed ≡ false → length v.waiting < MOST_WAITING
   pub last : v.last ≡ last_of_record v.beginning es
 
 -- bytes stand behind those so far
@@ -56,6 +58,13 @@ pub record Adds (old new : FileView) (bytes : List ℕ) : Type 0 where
   pub works : new.failed ≡ false → old.failed ≡ false
   pub waits : new.failed ≡ false → length new.waiting ≤ length old.waiting + length bytes
 
+-- the same, where some of the bytes may be written
+pub record GoesOn (old new : FileView) (bytes : List ℕ) : Type 0 where
+  pub beginning : new.beginning ≡ old.beginning
+  pub first : new.first ≡ old.first
+  pub last : new.last ≡ old.last
+  pub text : (text : List ℕ) → HasText old text → HasText new (text ++ bytes)
+
 -- what waited is written
 pub record Writes (old new : FileView) : Type 0 where
   pub beginning : new.beginning ≡ old.beginning
@@ -65,7 +74,7 @@ pub record Writes (old new : FileView) : Type 0 where
   pub works : new.failed ≡ false → old.failed ≡ false
   pub none_waits : new.failed ≡ false → new.waiting ≡ []
 
--- what waited is written, or some of it, and all where the call sends
+-- what waited is written, or some of it, so that few bytes wait, and all where the call sends
 pub record WritesIf (old new : FileView) (e : Entry) : Type 0 where
   pub beginning : new.beginning ≡ old.beginning
   pub first : new.first ≡ old.first
@@ -73,6 +82,7 @@ pub record WritesIf (old new : FileView) (e : Entry) : Type 0 where
   pub text : (text : List ℕ) → HasText old text → HasText new text
   pub works : new.failed ≡ false → old.failed ≡ false
   pub waits : new.failed ≡ false → length new.waiting ≤ length old.waiting
+  pub few : new.failed ≡ false → length new.waiting < MOST_WAITING
   pub sent : new.failed ≡ false → sends e ≡ true → new.waiting ≡ []
 
 -- the call stands behind those so far

@@ -17,6 +17,7 @@
 //! If the file fails, [`Written`] goes on without it, and says so at its end.
 #![tactic(auto)]
 
+mod framing;
 mod laws;
 mod record_file;
 mod replaying;

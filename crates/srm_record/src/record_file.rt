@@ -1,33 +1,30 @@
 //! What writes a record to a file.
 
-ghost use Rattle.std.specs.Prelude.{◌≡◌, ◌≤◌, ◌++◌, ◌∷◌, List, [], true, length, take, IfOk, OnOk, OnErr};
+ghost use Rattle.std.specs.Prelude.{◌≡◌, ◌<◌, ◌≤◌, List, [], true, false, length};
 ghost use Rattle.std.specs.Io.KnownBytes.{Appends};
 ghost use Rattle.srm_names.specs.declared.limits.TheConstants.{PAGES};
 ghost use Rattle.srm_frames.specs.Beginnings.{beginning_text};
 ghost use Rattle.srm_entries.specs.declared.entry.Entry.{Entry as AnEntry};
 ghost use Rattle.srm_record.specs.Calls.{last_after};
-ghost use Rattle.srm_codec.specs.Spelling.{spelling};
-ghost use Rattle.srm_frames.specs.declared.line.Call.TheVariants as calls;
 ghost use Rattle.srm_frames.specs.Lines.{line_text, lines_text};
 ghost use Rattle.srm_record.specs.Records.{whole_record};
-ghost use Rattle.srm_record.specs.Takes.{taken_in, takes_at, end_at};
+ghost use Rattle.srm_record.specs.Takes.{taken_in, take_at, slot_lines, takes_at, end_at};
 ghost use Rattle.srm_output.specs.Writing.{AppendsFront};
-ghost use Rattle.srm_record.specs.Writing.{HasText, HasRecord, Adds, Writes, WritesIf, Notes, call_text, sends};
+ghost use Rattle.srm_record.specs.Writing.{HasText, HasRecord, Adds, GoesOn, Writes, WritesIf, Notes, call_text, sends};
 
-use crate::taking::{end_at, takes_at};
-use crate::telling::{acts, last_after, line_of, spelled};
-use srm_codec::Datagram;
-use srm_entries::{Entry, Input};
-use srm_frames::{Beginning, beginning_bytes, put_heard, put_line, put_lines};
+use crate::framing::{put_call, put_end};
+use crate::telling::last_after;
+use srm_entries::Entry;
+use srm_frames::{Beginning, beginning_bytes, put_took};
 use srm_names::PageMsg;
 use srm_output::write_bytes;
-use std::alloc::{AllocError, Global};
+use std::alloc::Global;
 use std::io::Write;
 use std::marker::Model;
 use std::snapshot::Snapshot;
 
-/// So many bytes wait at most before they are written.
-const MOST_WAITING: usize = 65_536;
+/// Fewer bytes than these wait between calls.
+pub const MOST_WAITING: usize = 65_536;
 
 /// So long they wait at most, in microseconds, if another call comes.
 const LONGEST_WAIT: u64 = 200_000;
@@ -146,7 +143,8 @@ impl<F: Write + Drop> RecordFile<F> {
     }
 
     fn is_due(&self, entry: &Entry) -> bool
-        ensures { sends entry.now ≡ true → result ≡ true }
+        ensures sends { sends entry.now ≡ true → result ≡ true }
+        ensures few { result ≡ false → length self.now.waiting < MOST_WAITING }
     {
         !entry.effects.outs.as_slice().is_empty()
             || self.waiting.len() >= MOST_WAITING
@@ -167,85 +165,70 @@ impl<F: Write + Drop> RecordFile<F> {
         }
     }
 
-    /// Writes what page workers took, slot by slot, and that this is all. Returns whether the file has all, and the file.
-    #[tactic(auto, using(crate::proofs::Filing::ended_whole, crate::proofs::Filing::ended_front))]
+    /// Writes what page workers took, slot by slot, and that this is all. Returns whether the file has all, and the file. Holds little more than 64 KiB of it.
+    #[tactic(auto, using(crate::proofs::Ending::ended_whole, crate::proofs::Ending::ended_front))]
     pub fn end(self, taken: &[Vec<PageMsg>]) -> (bool, F)
         requires { length taken.now ≤ PAGES }
         ensures whole { result.0 ≡ true → (es : List AnEntry) → HasRecord self es → Appends self.first (F.contents result.1) (whole_record self.beginning es (taken_in taken.now)) }
         ensures front { (es : List AnEntry) → HasRecord self es → AppendsFront self.first (F.contents result.1) (whole_record self.beginning es (taken_in taken.now)) }
     {
         let mut file = self;
-        file.put_end(taken);
+        file.put_takes(taken);
+        file.put_end();
         file.write();
         (!file.failed, file.file)
     }
 
-    #[tactic(auto, using(crate::proofs::Filing::puts_none, crate::proofs::Filing::puts, crate::proofs::Filing::breaks))]
-    fn put_end(&mut self, taken: &[Vec<PageMsg>])
+    fn put_takes(&mut self, taken: &[Vec<PageMsg>])
         requires { length taken.now ≤ PAGES }
-        ensures { Adds self.old self.new (lines_text (takes_at self.old.last (taken_in taken.now) ++ end_at self.old.last ∷ [])) }
+        ensures { GoesOn self.old self.new (lines_text (takes_at self.old.last (taken_in taken.now))) }
+    {
+        for (slot, list) in taken.iter().enumerate() {
+            self.put_slot(slot as u8, list.as_slice());
+        }
+    }
+
+    fn put_slot(&mut self, slot: u8, messages: &[PageMsg])
+        ensures { GoesOn self.old self.new (lines_text (slot_lines self.old.last slot messages.now)) }
+    {
+        for message in messages {
+            self.put_take(slot, message);
+            self.write_if_much();
+        }
+    }
+
+    #[tactic(auto, using(crate::proofs::Filing::puts_none, crate::proofs::Filing::puts, crate::proofs::Filing::breaks))]
+    fn put_take(&mut self, slot: u8, message: &PageMsg)
+        ensures { Adds self.old self.new (line_text (take_at self.old.last slot message.now)) }
     {
         if self.failed {
             return;
         }
-        match put_all(self.alloc, &mut self.waiting, self.last, taken) {
+        match put_took(self.alloc, &mut self.waiting, self.last, slot, message) {
             Ok(()) => {}
             Err(_) => self.failed = true,
         }
     }
-}
 
-// Appends the frame of a call to bytes, if it acts.
-fn put_call(alloc: Global, out: &mut Vec<u8>, session: u32, entry: &Entry) -> Result<(), AllocError>
-    ensures { OnOk result (out.new.items ≡ out.old.items ++ call_text session entry.now) }
-{
-    match &entry.input {
-        Input::Heard(datagram) if acts(entry) => {
-            put_datagram(alloc, out, session, entry.moment, datagram)
+    #[tactic(auto, using(crate::proofs::Ending::goes_nowhere, crate::proofs::Ending::of_writes))]
+    fn write_if_much(&mut self)
+        ensures { GoesOn self.old self.new [] }
+    {
+        if self.waiting.len() >= MOST_WAITING {
+            self.write();
         }
-        _ => put_line_of(alloc, out, session, entry),
     }
-}
 
-fn put_line_of(
-    alloc: Global,
-    out: &mut Vec<u8>,
-    session: u32,
-    entry: &Entry,
-) -> Result<(), AllocError>
-    ensures { OnOk result (out.new.items ≡ out.old.items ++ call_text session entry.now) }
-{
-    match line_of(alloc, session, entry)? {
-        Some(line) => put_line(alloc, out, &line),
-        None => Ok(()),
+    #[tactic(auto, using(crate::proofs::Filing::puts_none, crate::proofs::Filing::puts, crate::proofs::Filing::breaks))]
+    fn put_end(&mut self)
+        ensures { Adds self.old self.new (line_text (end_at self.old.last)) }
+    {
+        if self.failed {
+            return;
+        }
+        match put_end(self.alloc, &mut self.waiting, self.last) {
+            Ok(()) => {}
+            Err(_) => self.failed = true,
+        }
     }
-}
-
-// The same without a line that owns the bytes, since most of what a record has is datagrams.
-fn put_datagram(
-    alloc: Global,
-    out: &mut Vec<u8>,
-    session: u32,
-    moment: u64,
-    datagram: &Datagram,
-) -> Result<(), AllocError>
-    ensures { OnOk result (out.new.items ≡ out.old.items ++ line_text (record { moment = moment; call = calls.Heard (spelling session datagram.now) })) }
-{
-    let bytes = spelled(alloc, session, datagram)?;
-    put_heard(out, moment, bytes.as_slice())
-}
-
-// Appends the frames of what page workers took, slot by slot, and of the end.
-fn put_all(
-    alloc: Global,
-    out: &mut Vec<u8>,
-    last: u64,
-    taken: &[Vec<PageMsg>],
-) -> Result<(), AllocError>
-    requires { length taken.now ≤ PAGES }
-    ensures { OnOk result (out.new.items ≡ out.old.items ++ lines_text (takes_at last (taken_in taken.now) ++ end_at last ∷ [])) }
-{
-    let mut lines = takes_at(alloc, last, taken)?;
-    lines.push(end_at(last)).map_err(AllocError::from)?;
-    put_lines(alloc, out, lines.as_slice())
 }

@@ -1,10 +1,11 @@
 //! A record's calls, made anew.
 
-ghost use Rattle.std.specs.Prelude.{◌≡◌, ℕ, ◌<◌, ◌≤◌, ◌++◌, ◌∷◌, [], true, false, vec_len, Err, IfOk, IfSome, MatchOption, OnOk};
+ghost use Rattle.std.specs.Prelude.{◌≡◌, ℕ, ◌<◌, ◌≤◌, ◌++◌, ◌∷◌, [], if◌then◌else◌, true, false, vec_len, Err, IfOk, IfSome, MatchOption, OnOk};
 ghost use Rattle.std.specs.List.{cons_option};
 ghost use Rattle.rand_pcg.specs.Lcg.{Lcg};
 ghost use Rattle.rand_pcg.specs.Pcg.{pcg64};
 ghost use Rattle.srm_names.specs.declared.limits.TheConstants.{LATEST_MOMENT, PAGES};
+ghost use Rattle.srm_names.specs.Histories.{greatest};
 ghost use Rattle.srm_timers.specs.Seeds.{words_of};
 ghost use Rattle.srm_entries.specs.declared.fault.AgentFault.TheVariants.{Memory};
 ghost use Rattle.srm_entries.specs.Entries.{last_moment, moments_counted, takes_moment};
@@ -35,7 +36,7 @@ pub struct Replayed {
 /// Makes the calls of a record anew, in a recorder with the same settings and random numbers. Returns what came out, if the record's lines are exactly
 /// those that a member writes who did this. Returns `None` if they aren't: then no run of a member that began so, with these random numbers, has this record.
 ///
-/// So the journal is a lawful run of its member, whatever the calls were, and the record is the record of that run. Every run that has this record did the same: the same calls
+/// So the journal is a lawful run of its member, whatever the calls were, and the record is the record of that run. It has an entry for each call, and noise before a give whose moment hadn't come. Every run that has this record did the same: the same calls
 /// acted, with the same entries, and its page workers took the same. Fails only if out of memory. Costs what the member's calls cost, and a step for each byte of the lines.
 #[tactic(auto, using(crate::proofs::Untold::untold, crate::proofs::Untold::tells_of_runs, crate::proofs::Untold::made_too_late))]
 pub fn retell(alloc: Global, read: &Record) -> Result<Option<Replayed>, AllocError>
@@ -45,6 +46,7 @@ pub fn retell(alloc: Global, read: &Record) -> Result<Option<Replayed>, AllocErr
     ensures told { IfOk result (λ found. IfSome found (λ r. lines_text read.now.lines.items ≡ lines_text (lines_told read.now.beginning r.journal.entries (taken_in r.taken.items) read.now.end))) }
     ensures runs { IfOk result (λ found. IfSome found (λ r. TellsOfRuns read.now r.journal (taken_in r.taken.items))) }
     ensures slots { IfOk result (λ found. IfSome found (λ r. vec_len r.taken ≡ PAGES)) }
+    ensures made { IfOk result (λ found. IfSome found (λ r. MakesAll read.now.lines.items (record { start = start_of read.now.beginning; entries = [] }) r.journal)) }
     ensures none { IfOk result (λ found. MatchOption found (IsOfNoRun read.now) (λ _. Unit {0})) }
 {
     if read.beginning.made > LATEST_MOMENT {
@@ -153,38 +155,45 @@ fn journal(alloc: Global, beginning: Beginning, lines: &[Line]) -> Result<Journa
         ..
     } = beginning;
     let recorder = Recorder::new(alloc, config, Pcg::new(seed), made)?;
-    played(recorder, lines)
+    played(recorder, made, lines)
 }
 
-/// The journal of a recorder that these calls were made of.
-fn played(recorder: Recorder<Pcg>, lines: &[Line]) -> Result<Journal, AllocError>
+/// The journal of a recorder that these calls were made of, whose last moment is this.
+fn played(recorder: Recorder<Pcg>, clock: u64, lines: &[Line]) -> Result<Journal, AllocError>
+    requires { clock ≡ last_moment recorder.journal.start.made recorder.journal.entries }
     ensures start { IfOk result (λ j. j.start ≡ recorder.journal.start) }
     ensures words { IfOk result (λ j. (to : Lcg) × RecordsByWords pcg64 recorder (record { journal = j; words = to })) }
     ensures lawful { IfOk result IsLawfulJournal }
     ensures made { IfOk result (MakesAll lines.now recorder.journal) }
 {
     let mut recorder = recorder;
-    match make_all(&mut recorder, lines) {
+    match make_all(&mut recorder, clock, lines) {
         Ok(()) => Ok(recorder.finish()),
         Err(error) => Err(error),
     }
 }
 
-#[tactic(auto, using(crate::proofs::GoingOn::stays, crate::proofs::GoingOn::goes_on_more, crate::proofs::Making::makes_next))]
-fn make_all(recorder: &mut Recorder<Pcg>, lines: &[Line]) -> Result<(), AllocError>
+#[tactic(auto, using(crate::proofs::GoingOn::stays, crate::proofs::GoingOn::goes_on_more, crate::proofs::Making::makes_next, crate::proofs::Making::no_fewer, crate::proofs::Making::clock_goes_on))]
+fn make_all(recorder: &mut Recorder<Pcg>, clock: u64, lines: &[Line]) -> Result<(), AllocError>
+    requires { clock ≡ last_moment recorder.old.journal.start.made recorder.old.journal.entries }
     ensures goes { GoesOn pcg64 recorder.old recorder.new }
     ensures makes { OnOk result (MakesAll lines.now recorder.old.journal recorder.new.journal) }
 {
+    let mut clock = clock;
     for line in lines {
-        make(recorder, &line.call, line.moment.min(LATEST_MOMENT))?;
+        let seen = recorder.entries().len();
+        make(recorder, &line.call, line.moment.min(LATEST_MOMENT), clock)?;
+        let (_, added) = recorder.entries().split_at(seen);
+        clock = clock_after(clock, added);
     }
     Ok(())
 }
 
-/// Makes a call. What a member refuses is in its journal.
+/// Makes a call, of a member whose last moment is this. What it refuses is in its journal.
 #[tactic(auto, using(crate::proofs::GoingOn::goes_on_by_call, crate::proofs::GoingOn::goes_on_by_hearing, crate::proofs::GoingOn::stays, crate::proofs::Making::made_call, crate::proofs::Making::made_heard))]
-fn make(recorder: &mut Recorder<Pcg>, call: &Call, now: u64) -> Result<(), AllocError>
-    requires { now ≤ LATEST_MOMENT }
+fn make(recorder: &mut Recorder<Pcg>, call: &Call, now: u64, clock: u64) -> Result<(), AllocError>
+    requires moment { now ≤ LATEST_MOMENT }
+    requires clock { clock ≡ last_moment recorder.old.journal.start.made recorder.old.journal.entries }
     ensures goes { GoesOn pcg64 recorder.old recorder.new }
     ensures makes { OnOk result (Makes now call.now recorder.old.journal recorder.new.journal) }
 {
@@ -197,56 +206,63 @@ fn make(recorder: &mut Recorder<Pcg>, call: &Call, now: u64) -> Result<(), Alloc
         Call::Ticked => made(recorder.tick(now)),
         Call::Showed(page) => made(recorder.show(*page, now)),
         Call::AskedLeave => made(recorder.leave(now)),
-        Call::Gave(slot) => give(recorder, *slot, now),
-        Call::Took(_, _) | Call::Ended => Ok(()),
+        Call::Gave(slot) if *slot < PAGES => give(recorder, *slot, now, clock),
+        Call::Gave(_) | Call::Took(_, _) | Call::Ended => Ok(()),
     }
 }
 
-/// Asks for the next message of a slot, if there is this slot. It has the moment of the call before it, which may have no line: then noise comes first.
+/// Asks for the next message of a slot. It has the moment of the call before it, which may have no line: then noise comes first.
 #[tactic(auto, using(crate::proofs::GoingOn::goes_on_by_call, crate::proofs::GoingOn::stays, crate::proofs::GoingOn::goes_on_more, crate::proofs::Making::made_give))]
-fn give(recorder: &mut Recorder<Pcg>, slot: u8, now: u64) -> Result<(), AllocError>
-    requires { now ≤ LATEST_MOMENT }
+fn give(recorder: &mut Recorder<Pcg>, slot: u8, now: u64, clock: u64) -> Result<(), AllocError>
+    requires moment { now ≤ LATEST_MOMENT }
+    requires clock { clock ≡ last_moment recorder.old.journal.start.made recorder.old.journal.entries }
+    requires slot { slot < PAGES }
     ensures goes { GoesOn pcg64 recorder.old recorder.new }
-    ensures gives { OnOk result (slot < PAGES → GainsGiven now slot recorder.old.journal recorder.new.journal) }
+    ensures gives { OnOk result (GainsGiven now slot recorder.old.journal recorder.new.journal) }
 {
-    if slot >= PAGES {
-        return Ok(());
-    }
-    wait(recorder, now)?;
+    wait(recorder, now, clock)?;
     made(recorder.give(slot))
 }
 
-/// Lets a moment come, and nothing else.
-#[tactic(auto, using(crate::proofs::GoingOn::goes_on_by_hearing, crate::proofs::GoingOn::stays, crate::proofs::Making::made_wait, crate::proofs::Making::waits_none))]
-fn wait(recorder: &mut Recorder<Pcg>, now: u64) -> Result<(), AllocError>
-    requires { now ≤ LATEST_MOMENT }
+/// Lets a moment come, if it hasn't, and nothing else.
+#[tactic(auto, using(crate::proofs::GoingOn::goes_on_by_hearing, crate::proofs::GoingOn::stays, crate::proofs::Making::waits_heard, crate::proofs::Making::waits_none))]
+fn wait(recorder: &mut Recorder<Pcg>, now: u64, clock: u64) -> Result<(), AllocError>
+    requires moment { now ≤ LATEST_MOMENT }
+    requires clock { clock ≡ last_moment recorder.old.journal.start.made recorder.old.journal.entries }
     ensures goes { GoesOn pcg64 recorder.old recorder.new }
     ensures waits { OnOk result (Waits now recorder.old.journal recorder.new.journal) }
 {
-    if has_come(recorder.entries(), now) {
-        return Ok(());
+    if clock < now {
+        made(recorder.hear(&[], now))
+    } else {
+        Ok(())
     }
-    made(recorder.hear(&[], now))
 }
 
-/// Whether a moment has come, by the last entry that counts.
-#[tactic(auto, using(crate::proofs::Making::has_come_by))]
-fn has_come(entries: &[Entry], now: u64) -> bool
-    ensures { result ≡ true → (made : ℕ) → now ≤ last_moment made entries.now }
+/// The last moment behind these entries, if this was the last before them.
+fn clock_after(clock: u64, entries: &[Entry]) -> u64
+    ensures { result ≡ last_moment clock entries.now }
 {
-    let mut rest = entries;
-    'rest: while let Some((entry, before)) = rest.split_last() {
-        if counts(entry) {
-            return now <= entry.moment;
-        }
-        rest = before;
+    let mut clock = clock;
+    for entry in entries {
+        clock = clock_behind(clock, entry);
     }
-    false
+    clock
+}
+
+fn clock_behind(clock: u64, entry: &Entry) -> u64
+    ensures { result ≡ greatest (clock ∷ moments_counted entry.now.verdict entry.now) }
+{
+    if counts(entry) {
+        clock.max(entry.moment)
+    } else {
+        clock
+    }
 }
 
 /// Whether an entry moves the clock.
 fn counts(entry: &Entry) -> bool
-    ensures { result ≡ true → moments_counted entry.now.verdict entry.now ≡ entry.now.moment ∷ [] }
+    ensures { moments_counted entry.now.verdict entry.now ≡ (if result then entry.now.moment ∷ [] else []) }
 {
     match entry.verdict {
         Verdict::Refused(_) => false,

@@ -65,7 +65,7 @@ impl<F: Write + Drop, P: Past<Entry> + Drop> Written<F, P> {
     }
 
     /// The law that the bytes that the file took, and then those that wait, are the record of the entries. If the file or memory failed, the file took a front of the record. Nothing waits
-    /// of the calls up to the last one that sends. The call does nothing.
+    /// of the calls up to the last one that sends, and less than 64 KiB in all. The call does nothing.
     pub fn keeps_record(&self)
         ensures { IsWritten self.now.entries self.now.file }
     {

@@ -1,8 +1,8 @@
-use Rattle.std.proofs.Common.{◌++◌, ap, ◌∙◌, List, [], take}
+use Rattle.std.proofs.Common.{◌++◌, ap, ◌∙◌, List, []}
 use Rattle.std.specs.List.{cons_option}
 use Rattle.srm_names.specs.declared.page_msg.PageMsg.{PageMsg}
 use Rattle.srm_frames.specs.declared.line.Line.{Line}
-use Rattle.srm_record.specs.Takes.{took_in, list_in}
+use Rattle.srm_record.specs.Takes.{took_in}
 use Rattle.srm_record.proofs.Elements.{one_found}
 use Rattle.srm_record.proofs.replaying.list_in.Goals as goal
 

@@ -1,5 +1,6 @@
-use Rattle.std.proofs.Common.{take}
+use Rattle.std.proofs.Common.{◌≡◌, take}
 use Rattle.rand_pcg.specs.Pcg.{pcg64}
+use Rattle.srm_entries.specs.Entries.{last_moment}
 use Rattle.srm_record.specs.Making.{MakesAll}
 use Rattle.srm_record.specs.Replays.{GoesOn}
 use Rattle.srm_record.proofs.replaying.make_all.Given as goal
@@ -8,4 +9,5 @@ abbrev pub invariant-loop-line : goal.invariant-loop-line
 invariant-loop-line l = record {
   goes : GoesOn pcg64 l.fn.recorder l.recorder;
   makes : MakesAll (take l.line-index l.lines) l.fn.recorder.journal l.recorder.journal;
+  clock : l.clock ≡ last_moment l.recorder.journal.start.made l.recorder.journal.entries;
 }

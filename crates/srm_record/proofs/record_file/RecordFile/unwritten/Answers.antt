@@ -1,4 +1,3 @@
-use Rattle.std.proofs.Common.{rules}
 use Rattle.srm_record.proofs.Filing.{starts_as}
 use Rattle.srm_record.proofs.record_file.RecordFile.unwritten.Goals as goal
 
