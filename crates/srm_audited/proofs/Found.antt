@@ -1,5 +1,5 @@
 -- What page workers of a run took, by the records that its members wrote, is what its members gave.
-use Rattle.std.proofs.Common.{◌≡◌, ◌≢◌, ℕ, zero, suc, ◌==◌, ◌+◌, ◌≤◌, ◌<◌, Bool, true, false, ◌&&◌, ◌||◌, List, [], ◌∷◌, ◌++◌, length, map, refl, ap, sym, ◌∙◌, subst, inl, inr, arith}
+use Rattle.std.proofs.Common.{◌≡◌, ◌≢◌, ℕ, suc, ◌==◌, ◌+◌, ◌≤◌, ◌<◌, Bool, true, false, ◌&&◌, ◌||◌, List, [], ◌∷◌, ◌++◌, length, refl, ap, sym, ◌∙◌, subst, inl, inr, arith}
 use Rattle.std.specs.Prelude.{Option, Some, option_map, unwrap_or, slice_get}
 use Rattle.std.specs.List.{AllByRecursion, flat_map, list_any}
 use Rattle.std.proofs.lemmas.Bool.{ne_eqb}
@@ -15,7 +15,6 @@ use Rattle.srm_entries.specs.Giving.{given}
 use Rattle.srm_world.specs.Traces.{Trace, Journal}
 use Rattle.srm_audit.specs.declared.got.Got.{Got}
 use Rattle.srm_audit.specs.Audits.{InOrder, entries_at, is_of, IsFound, AreFound, IsForeign}
-use Rattle.srm_gaps.specs.declared.told.Told.{Told}
 use Rattle.srm_gaps.specs.Gaps.{journals_of, IsAnother, AreOfOneSession}
 use Rattle.srm_gaps.proofs.Rostered.{told_at}
 use Rattle.srm_audited.specs.Sessions.{Replay, gots_from, gots_of}

@@ -1,8 +1,12 @@
 -- What came out of records' calls, and what it says of the records.
-use Rattle.std.specs.Prelude.{◌≡◌, ℕ, List, Option, Some, None, Result, Ok, Err, IfOk, IfErr, IfSome}
+use Rattle.std.specs.Prelude.{◌≡◌, ℕ, List, [], Vec, Option, Some, None, Result, Ok, Err, IfOk, IfErr, IfSome}
 use Rattle.rand_pcg.specs.Lcg.{Lcg}
 use Rattle.rand_pcg.specs.Pcg.{pcg64}
-use Rattle.std.proofs.Common.{refl, subst, inl, inr}
+use Rattle.std.proofs.Common.{refl, sym, subst, inl, inr, ◌∙◌, vec_len}
+use Rattle.std.specs.Global.{Global}
+use Rattle.std.proofs.lemmas.List.{length-map}
+use Rattle.srm_names.specs.declared.limits.TheConstants.{PAGES}
+use Rattle.srm_names.specs.declared.page_msg.PageMsg.{PageMsg}
 use Rattle.srm_timers.specs.Seeds.{words_of}
 use Rattle.srm_world.specs.Traces.{Trace, Journal, IsHonest, IsRun}
 use Rattle.srm_world.specs.Claims.{IsLawfulJournal, AgreesAtRest, TakesAreDrawn}
@@ -10,6 +14,7 @@ use Rattle.srm_world.specs.WaitWords.{AreByWords}
 use Rattle.srm_frames.specs.declared.reading.Record.{Record}
 use Rattle.srm_frames.specs.Lines.{lines_text}
 use Rattle.srm_record.specs.declared.replaying.Replayed.{Replayed}
+use Rattle.srm_record.specs.Making.{MakesAll}
 use Rattle.srm_record.specs.Replays.{start_of, lines_told, TellsOfRuns}
 use Rattle.srm_record.specs.Takes.{taken_in}
 use Rattle.srm_audit.specs.declared.got.Got.{Got}
@@ -19,24 +24,25 @@ use Rattle.srm_audit.specs.Audits.{AreAccountedBy, IsRefused}
 use Rattle.srm_gaps.specs.declared.told.Told.{Told}
 use Rattle.srm_audited.specs.declared.verdict.Verdict.{Verdict}
 use Rattle.srm_audited.specs.declared.verdict.Verdict.TheVariants.{Honest, NotHonest, Undecided}
-use Rattle.srm_audited.specs.declared.verdict.Reason.{Reason}
 use Rattle.srm_audited.specs.declared.verdict.Reason.TheVariants as reasons
 use Rattle.srm_audited.specs.Sessions.{replay_of, IsReplayOf, AreOf}
 use Rattle.srm_gaps.specs.Gaps.{journals_of, AreComplete, AreOfOneSession}
 use Rattle.srm_gaps.specs.Possible.{HasOrder, IsRefusedAt}
-use Rattle.srm_audited.specs.Verdicts.{AreHonest, ArePart, IsMismatch, IsReason, IsVerdict, IsVerdictOn, verdict_of_part, verdict_of_whole}
+use Rattle.srm_audited.specs.Verdicts.{AreGiven, AreHonest, ArePart, IsUngiven, IsMismatch, IsReason, IsVerdict, IsVerdictOn, verdict_of_part, verdict_of_whole}
 use Rattle.std.proofs.lemmas.Option.{none-some, same_Some}
 
 pub is_replay : {E : Type 0} (r : Record) (v : Result (Option Replayed) E)
     → IfOk v (λ found. IfSome found (λ p. p.journal.start ≡ start_of r.beginning))
     → IfOk v (λ found. IfSome found (λ p. IsLawfulJournal p.journal))
     → IfOk v (λ found. IfSome found (λ p. (to : Lcg) × AreByWords pcg64 p.journal.start.config (words_of r.beginning.seed) p.journal.entries to))
+    → IfOk v (λ found. IfSome found (λ p. MakesAll r.lines.items (record { start = start_of r.beginning; entries = [] }) p.journal))
     → IfOk v (λ found. IfSome found (λ p. lines_text r.lines.items ≡ lines_text (lines_told r.beginning p.journal.entries (taken_in p.taken.items) r.end)))
     → IfOk v (λ found. IfSome found (λ p. TellsOfRuns r p.journal (taken_in p.taken.items)))
+    → IfOk v (λ found. IfSome found (λ p. vec_len p.taken ≡ PAGES))
     → IfOk v (λ found. IfSome found (λ p. IsReplayOf r (replay_of r.end p)))
-is_replay r (Ok (Some p)) start lawful words told runs = record { start = start; lawful = lawful; words = words; told = told; runs = runs; cut = refl }
-is_replay r (Ok None) start lawful words told runs = tt
-is_replay r (Err e) start lawful words told runs = tt
+is_replay r (Ok (Some p)) start lawful words made told runs slots = record { start = start; lawful = lawful; words = words; made = made; told = told; runs = runs; slots = length-map p.taken.items (λ (list : Vec PageMsg Global). list.items) ∙ sym p.taken.ok.0 ∙ slots; cut = refl }
+is_replay r (Ok None) start lawful words made told runs slots = tt
+is_replay r (Err e) start lawful words made told runs slots = tt
 
 pub honest_ok : {E : Type 0} (ts : List Told) (js : List Journal) (gots : List Got) (r : Result Trace E) → js ≡ journals_of ts → IfOk r (AreAccountedBy js gots) → IfOk r IsRun → IfOk r (λ t. IsHonest t.entries) → IfOk r (λ t. TakesAreDrawn t.entries)
     → IfOk r (λ t. AgreesAtRest t.entries) → IfOk r (AreHonest ts gots)
@@ -64,25 +70,28 @@ are_part ts incomplete session = record { incomplete = incomplete; session = ses
 pub stuck_unsent : (ts : List Told) (gots : List Got) (member entry : ℕ) → ArePart ts → IsRefusedAt ts member entry → IsReason ts gots (reasons.Unsent member entry)
 stuck_unsent ts gots member entry part refused = inr (part, refused)
 
+pub taken_ungiven : (ts : List Told) (gots : List Got) (member slot : ℕ) → ArePart ts → HasOrder ts → IsUngiven ts gots member slot → IsReason ts gots (reasons.Foreign member slot)
+taken_ungiven ts gots member slot are order ungiven = inr (are, order, inl ungiven)
+
 whole : (ts : List Told) (gots : List Got) (mismatch : Mismatch) (v : Verdict) → AreComplete ts → IsMismatch ts gots mismatch → verdict_of_whole mismatch ≡ Some v → IsVerdictOn ts gots v
 whole ts gots Memory v complete is e = absurd (none-some v e)
 whole ts gots Roster v complete is e = subst (IsVerdictOn ts gots) (same_Some (NotHonest reasons.Roster) v e) (inl (complete, is))
-whole ts gots (Foreign member slot) v complete is e = subst (IsVerdictOn ts gots) (same_Some (NotHonest (reasons.Foreign member slot)) v e) (is, inl complete)
+whole ts gots (Foreign member slot) v complete is e = subst (IsVerdictOn ts gots) (same_Some (NotHonest (reasons.Foreign member slot)) v e) (inl (complete, is))
 whole ts gots (Unsent member entry) v complete is e = subst (IsVerdictOn ts gots) (same_Some (NotHonest (reasons.Unsent member entry)) v e) (inl (complete, is))
 
 pub whole_ok : {E : Type 0} (ts : List Told) (gots : List Got) (mismatch : Mismatch) (r : Result Verdict E) → AreComplete ts → IsMismatch ts gots mismatch → IfOk r (λ v. verdict_of_whole mismatch ≡ Some v) → IfOk r (IsVerdictOn ts gots)
 whole_ok ts gots mismatch (Ok v) complete is e = whole ts gots mismatch v complete is e
 whole_ok ts gots mismatch (Err fault) complete is e = tt
 
-part : (ts : List Told) (gots : List Got) (mismatch : Mismatch) (v : Verdict) → ArePart ts → HasOrder ts → IsMismatch ts gots mismatch → verdict_of_part mismatch ≡ Some v → IsVerdictOn ts gots v
-part ts gots Memory v are order is e = absurd (none-some v e)
-part ts gots Roster v are order is e = subst (IsVerdictOn ts gots) (same_Some Undecided v e) (record { part = are; refused = inl is; order = order })
-part ts gots (Foreign member slot) v are order is e = subst (IsVerdictOn ts gots) (same_Some (NotHonest (reasons.Foreign member slot)) v e) (is, inr (are, order))
-part ts gots (Unsent member entry) v are order is e = subst (IsVerdictOn ts gots) (same_Some Undecided v e) (record { part = are; refused = inr (member, entry, is); order = order })
+part : (ts : List Told) (gots : List Got) (mismatch : Mismatch) (v : Verdict) → ArePart ts → HasOrder ts → AreGiven ts gots → IsMismatch ts gots mismatch → verdict_of_part mismatch ≡ Some v → IsVerdictOn ts gots v
+part ts gots Memory v are order given is e = absurd (none-some v e)
+part ts gots Roster v are order given is e = subst (IsVerdictOn ts gots) (same_Some Undecided v e) (record { part = are; refused = inl is; order = order; given = given })
+part ts gots (Foreign member slot) v are order given is e = subst (IsVerdictOn ts gots) (same_Some (NotHonest (reasons.Foreign member slot)) v e) (inr (are, order, inr is))
+part ts gots (Unsent member entry) v are order given is e = subst (IsVerdictOn ts gots) (same_Some Undecided v e) (record { part = are; refused = inr (member, entry, is); order = order; given = given })
 
-pub part_ok : {E : Type 0} (ts : List Told) (gots : List Got) (mismatch : Mismatch) (r : Result Verdict E) → ArePart ts → HasOrder ts → IsMismatch ts gots mismatch → IfOk r (λ v. verdict_of_part mismatch ≡ Some v) → IfOk r (IsVerdictOn ts gots)
-part_ok ts gots mismatch (Ok v) are order is e = part ts gots mismatch v are order is e
-part_ok ts gots mismatch (Err fault) are order is e = tt
+pub part_ok : {E : Type 0} (ts : List Told) (gots : List Got) (mismatch : Mismatch) (r : Result Verdict E) → ArePart ts → HasOrder ts → AreGiven ts gots → IsMismatch ts gots mismatch → IfOk r (λ v. verdict_of_part mismatch ≡ Some v) → IfOk r (IsVerdictOn ts gots)
+part_ok ts gots mismatch (Ok v) are order given is e = part ts gots mismatch v are order given is e
+part_ok ts gots mismatch (Err fault) are order given is e = tt
 
 -- the verdict on what came out is the verdict on the records
 pub of_records : (rs : List Record) (ts : List Told) (gots : List Got) (v : Verdict) → AreOf rs ts gots → IsVerdictOn ts gots v → IsVerdict rs v

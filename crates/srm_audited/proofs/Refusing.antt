@@ -1,17 +1,16 @@
 -- Records that members of an honest run wrote aren't refused; where they tell all that was sent, they are found honest.
-use Rattle.std.proofs.Common.{◌≡◌, ℕ, ◌==◌, ◌≤◌, ◌<◌, Bool, true, false, List, [], ◌∷◌, length, map, refl, ap, sym, ◌∙◌, subst, inl, inr, arith}
+use Rattle.std.proofs.Common.{◌≡◌, ℕ, ◌==◌, ◌≤◌, ◌<◌, Bool, true, false, List, [], ◌∷◌, length, refl, ap, sym, ◌∙◌, subst, inl, inr, arith}
 use Rattle.std.specs.Prelude.{◌⊎◌, Option, Some, None, option_map, unwrap_or, IsSome}
 use Rattle.std.specs.List.{AllByRecursion, flat_map}
 use Rattle.std.proofs.lemmas.Bool.{cases_lt, eqb-true}
 use Rattle.std.proofs.lemmas.List.{length-map}
-use Rattle.srm_names.proofs.Lists.{Has, All-Has, find-Has, all_by, by_place}
+use Rattle.srm_names.proofs.Lists.{All-Has, find-Has, all_by, by_place}
 use Rattle.srm_entries.specs.declared.entry.Entry.{Entry}
 use Rattle.srm_entries.specs.Entries.{sent}
 use Rattle.srm_world.specs.declared.start.Start.{Start}
 use Rattle.srm_world.specs.Traces.{Trace, Journal, of_member, IsRoster}
 use Rattle.srm_world.proofs.Members.{none_of}
 use Rattle.srm_frames.specs.declared.reading.Record.{Record}
-use Rattle.srm_frames.specs.declared.reading.RecordEnd.{RecordEnd}
 use Rattle.srm_replays.specs.Law.{acting, RestsUnseen}
 use Rattle.srm_replays.proofs.Unseen.{unseen_law}
 use Rattle.srm_audit.specs.declared.got.Got.{Got}
@@ -19,21 +18,21 @@ use Rattle.srm_audit.specs.declared.mismatch.Mismatch.TheVariants as mismatches
 use Rattle.srm_audit.specs.Audits.{InOrder, IsUnsent, AreFound}
 use Rattle.srm_audit.proofs.Stuck.{no_order_law}
 use Rattle.srm_gaps.specs.declared.told.Told.{Told}
-use Rattle.srm_gaps.specs.Gaps.{journals_of, IsComplete, AreComplete, AreOfOneSession}
+use Rattle.srm_gaps.specs.Gaps.{journals_of, IsComplete, AreComplete}
 use Rattle.srm_gaps.specs.Possible.{told_of, calls_told}
-use Rattle.srm_gaps.specs.Retelling.{IsRunTold, AreRunsTold, IsRunAsTold, TellAllSent, HasHonestOrder}
+use Rattle.srm_gaps.specs.Retelling.{IsRunTold, TellAllSent, HasHonestOrder}
 use Rattle.srm_gaps.proofs.Retelling.{unseen_in_run, refusal_law}
 use Rattle.srm_gaps.proofs.Exactly.{first_told, sent_acting, unseen_of_member, order_law}
 use Rattle.srm_gaps.proofs.Rostered.{BeganIn, in_roster, each_has_record, in_order, told_in_order}
-use Rattle.srm_audited.specs.declared.verdict.Verdict.{Verdict}
 use Rattle.srm_audited.specs.declared.verdict.Verdict.TheVariants.{Honest, NotHonest, Undecided}
 use Rattle.srm_audited.specs.declared.verdict.Reason.{Reason}
 use Rattle.srm_audited.specs.declared.verdict.Reason.TheVariants.{Untold, Roster, Foreign, Unsent}
 use Rattle.srm_audited.specs.Sessions.{Replay, IsReplayOf, AreReplaysOf, gots_of, is_cut}
-use Rattle.srm_audited.specs.Verdicts.{AreRefused, IsReason, AreUndecided, IsVerdictOf}
+use Rattle.srm_audited.specs.Verdicts.{AreGiven, AreRefused, IsReason, AreUndecided, IsVerdictOf}
 use Rattle.srm_audited.specs.Writers.{IsWrittenIn, AreWrittenIn, IsWrittenWhole, AreWrittenWhole, RefusedLaw, CompletenessLaw}
-use Rattle.srm_audited.proofs.Writing.{tolds, each_told, as_many, IsIn, AreToldIn, told_in}
+use Rattle.srm_audited.proofs.Writing.{tolds, as_many, IsIn, AreToldIn, told_in}
 use Rattle.srm_audited.proofs.Found.{are_found, none_foreign}
+use Rattle.srm_audited.proofs.Given.{are_given, none_ungiven}
 
 -- all that was sent is told
 
@@ -103,13 +102,19 @@ sent_where_whole t n (p ∷ ps) unseen all whole = (
 
 -- no reason holds
 
+not_foreign : (t : Trace) (ps : List Replay) (gots : List Got) (member slot : ℕ) → AreToldIn t ps → gots ≡ flat_map gots_of ps → ¬ (AreRefused (tolds ps) gots (mismatches.Foreign member slot))
+not_foreign t ps gots member slot a lists (q, order, foreign) =
+    none_foreign q gots member slot (subst (λ (gs : List Got). AreFound q gs) (sym lists) (are_found t ps q a.all a.session order)) foreign
+
 no_reason : (t : Trace) (ps : List Replay) (gots : List Got) (reason : Reason) → AreToldIn t ps → gots ≡ flat_map gots_of ps → ¬ (IsReason (tolds ps) gots reason)
 no_reason t ps gots (Untold place) a lists never = never
 no_reason t ps gots Roster a lists (inl (complete, refused)) =
     let (q, order) = in_order t.starts (tolds ps) a.as_told.run.roster a.began a.session (as_many_as_members t.starts (tolds ps) a.as_told.run.roster a.began complete) in refused q order
 no_reason t ps gots Roster a lists (inr (incomplete, differ)) = differ a.session
-no_reason t ps gots (Foreign member slot) a lists ((q, order, foreign), where_) =
-    none_foreign q gots member slot (subst (λ (gs : List Got). AreFound q gs) (sym lists) (are_found t ps q a.all a.session order)) foreign
+no_reason t ps gots (Foreign member slot) a lists (inl (complete, refused)) = not_foreign t ps gots member slot a lists refused
+no_reason t ps gots (Foreign member slot) a lists (inr (part, order, inl ungiven)) =
+    none_ungiven (tolds ps) gots member slot (subst (AreGiven (tolds ps)) (sym lists) (are_given t ps a.all a.session)) ungiven
+no_reason t ps gots (Foreign member slot) a lists (inr (part, order, inr refused)) = not_foreign t ps gots member slot a lists refused
 no_reason t ps gots (Unsent member entry) a lists (inl (complete, (q, order, found, unsent))) =
     let unseen : AllByRecursion RestsUnseen t.entries = unseen_in_run t a.as_told.run in
     all_sent t ps q member entry a

@@ -1,6 +1,6 @@
 -- Records that both members of an honest run wrote, whole, so that the premises of the laws can be met.
-use Rattle.std.proofs.Common.{◌≡◌, ◌≢◌, ℕ, zero, suc, ◌≤◌, ◌<◌, ◌^◌, true, false, List, [], ◌∷◌, ◌++◌, length, take, drop, refl, ap, sym, ◌∙◌, subst, lit<, lit≤, arith}
-use Rattle.std.specs.Prelude.{Some, slice_get, Contains}
+use Rattle.std.proofs.Common.{◌≡◌, ◌≢◌, ℕ, zero, suc, ◌<◌, ◌^◌, true, false, List, [], ◌∷◌, length, take, drop, refl, ap, sym, ◌∙◌, subst, lit<, lit≤, arith}
+use Rattle.std.specs.Prelude.{Some, slice_get}
 use Rattle.std.specs.List.{AllByRecursion}
 use Rattle.std.proofs.lemmas.List.{take-append-drop}
 use Rattle.std.proofs.lemmas.Option.{same_Some}
@@ -20,7 +20,6 @@ use Rattle.srm_timers.specs.Seeds.{words_of}
 use Rattle.srm_entries.specs.declared.entry.Entry.{Entry}
 use Rattle.srm_entries.specs.declared.entry.Verdict.TheVariants.{Done, Refused}
 use Rattle.srm_entries.specs.declared.fault.AgentFault.TheVariants.{Memory}
-use Rattle.srm_entries.specs.Configs.{IsConfig}
 use Rattle.srm_entries.specs.Giving.{given}
 use Rattle.srm_entries.specs.Runs.{IsMemberRun}
 use Rattle.srm_entries.specs.Sample.{config, first_drawop, first_stream}
@@ -36,7 +35,6 @@ use Rattle.srm_frames.specs.declared.beginning.Beginning.{Beginning}
 use Rattle.srm_frames.specs.declared.reading.Record.{Record}
 use Rattle.srm_frames.specs.declared.reading.RecordEnd.TheVariants.{Whole}
 use Rattle.srm_frames.specs.WhatIsRead.{IsBeginning, IsLine, RecordView, seen}
-use Rattle.srm_replays.specs.Law.{acting}
 use Rattle.srm_record.specs.Records.{whole_lines}
 use Rattle.srm_record.specs.Replays.{start_of, lines_told, IsRecordOf, IsSpelled}
 use Rattle.srm_audited.specs.declared.verdict.Verdict.{Verdict}

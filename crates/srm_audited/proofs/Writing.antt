@@ -1,19 +1,16 @@
 -- What the replays of records say of a run whose members wrote them.
-use Rattle.std.proofs.Common.{◌≡◌, ◌≢◌, ℕ, suc, ◌==◌, ◌+◌, ◌≤◌, ◌<◌, Bool, true, false, List, [], ◌∷◌, ◌++◌, length, map, refl, ap, sym, ◌∙◌, subst, inl, inr, arith}
+use Rattle.std.proofs.Common.{◌≡◌, ℕ, suc, ◌==◌, Bool, true, false, List, [], ◌∷◌, ◌++◌, length, map, refl, ap, sym, ◌∙◌, subst}
 use Rattle.std.specs.Prelude.{Option, Some, None, option_map, unwrap_or, slice_get, Contains}
-use Rattle.std.specs.List.{AllByRecursion, filter_map, cons_option}
+use Rattle.std.specs.List.{AllByRecursion, cons_option}
 use Rattle.std.proofs.lemmas.Bool.{eqb-true}
-use Rattle.std.proofs.lemmas.List.{length-map}
 use Rattle.srm_names.specs.declared.limits.TheConstants.{PAGES}
 use Rattle.srm_names.specs.declared.page_msg.PageMsg.{PageMsg}
 use Rattle.srm_names.specs.Histories.{IsPrefix}
-use Rattle.srm_names.proofs.Lists.{Has, All-Has, find-Has, all_by}
+use Rattle.srm_names.proofs.Lists.{All-Has, find-Has}
 use Rattle.srm_entries.specs.declared.entry.Entry.{Entry}
-use Rattle.srm_entries.specs.Entries.{sent}
 use Rattle.srm_entries.specs.Giving.{given, given_in}
-use Rattle.srm_entries.specs.Runs.{IsMemberRun}
 use Rattle.srm_world.specs.declared.start.Start.{Start}
-use Rattle.srm_world.specs.Traces.{Trace, Journal, of_member, IsHonest, IsRoster, IsRun}
+use Rattle.srm_world.specs.Traces.{Trace, of_member, IsRoster}
 use Rattle.srm_frames.specs.declared.reading.Record.{Record}
 use Rattle.srm_replays.specs.Calls.{acts}
 use Rattle.srm_replays.specs.Law.{acting, RestsUnseen}
@@ -23,8 +20,8 @@ use Rattle.srm_gaps.specs.declared.told.Told.{Told}
 use Rattle.srm_gaps.specs.Gaps.{IsAnother, AreOfOneSession}
 use Rattle.srm_gaps.specs.Possible.{told_of, calls_told, may_miss}
 use Rattle.srm_gaps.specs.Retelling.{DoAsTold, IsRunTold, AreRunsTold, IsRunAsTold}
-use Rattle.srm_gaps.proofs.Rostered.{BeganIn, IsInRoster, in_roster, same_session}
-use Rattle.srm_audited.specs.Sessions.{Replay, IsReplayOf, AreReplaysOf, is_cut}
+use Rattle.srm_gaps.proofs.Rostered.{BeganIn, in_roster, same_session}
+use Rattle.srm_audited.specs.Sessions.{Replay, IsReplayOf, AreReplaysOf}
 use Rattle.srm_audited.specs.Writers.{IsWrittenIn, IsOfAnother, AreOfOthers, AreWrittenIn}
 
 -- what was given is what the calls that act gave

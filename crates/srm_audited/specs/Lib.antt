@@ -1,3 +1,4 @@
 pub mod Sessions
 pub mod Verdicts
 pub mod Writers
+pub mod GivenExamples

@@ -1,8 +1,9 @@
 -- What came out of the records of a session, whose calls were made anew.
-use Rattle.std.specs.Prelude.{◌≡◌, ℕ, ◌+◌, Bool, true, false, List, [], ◌∷◌, ◌++◌, map}
+use Rattle.std.specs.Prelude.{◌≡◌, ℕ, ◌+◌, Bool, true, false, List, [], ◌∷◌, ◌++◌, length, map}
 use Rattle.std.specs.List.{flat_map}
 use Rattle.rand_pcg.specs.Lcg.{Lcg}
 use Rattle.rand_pcg.specs.Pcg.{pcg64}
+use Rattle.srm_names.specs.declared.limits.TheConstants.{PAGES}
 use Rattle.srm_names.specs.declared.page_msg.PageMsg.{PageMsg}
 use Rattle.srm_timers.specs.Seeds.{words_of}
 use Rattle.srm_world.specs.Traces.{Journal}
@@ -13,6 +14,7 @@ use Rattle.srm_frames.specs.declared.reading.RecordEnd.{RecordEnd}
 use Rattle.srm_frames.specs.declared.reading.RecordEnd.TheVariants.{Whole, Cut}
 use Rattle.srm_frames.specs.Lines.{lines_text}
 use Rattle.srm_record.specs.declared.replaying.Replayed.{Replayed}
+use Rattle.srm_record.specs.Making.{MakesAll}
 use Rattle.srm_record.specs.Replays.{start_of, lines_told, TellsOfRuns}
 use Rattle.srm_record.specs.Takes.{taken_in}
 use Rattle.srm_audit.specs.declared.got.Got.{Got}
@@ -34,13 +36,15 @@ told_by end j = record { journal = j; is_cut = is_cut end }
 abbrev pub replay_of : RecordEnd → Replayed → Replay
 replay_of end p = record { told = told_by end p.journal; lists = taken_in p.taken.items }
 
--- A lawful run of the record's member, with the random numbers of its seed, and the record is the record of it. Of every run that has this record the replay tells what acted and what was taken.
+-- A lawful run of the record's member, with the random numbers of its seed, made of the record's calls, and the record is the record of it and of a list for each page slot. Of every run that has this record the replay tells what acted and what was taken.
 pub record IsReplayOf (r : Record) (p : Replay) : Type 0 where
   pub start : p.told.journal.start ≡ start_of r.beginning
   pub lawful : IsLawfulJournal p.told.journal
   pub words : (to : Lcg) × AreByWords pcg64 p.told.journal.start.config (words_of r.beginning.seed) p.told.journal.entries to
+  pub made : MakesAll r.lines.items (record { start = start_of r.beginning; entries = [] }) p.told.journal
   pub told : lines_text r.lines.items ≡ lines_text (lines_told r.beginning p.told.journal.entries p.lists r.end)
   pub runs : TellsOfRuns r p.told.journal p.lists
+  pub slots : length p.lists ≡ PAGES
   pub cut : p.told.is_cut ≡ is_cut r.end
 
 abbrev pub AreReplaysOf : List Record → List Replay → Type 0

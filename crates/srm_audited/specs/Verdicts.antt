@@ -1,5 +1,8 @@
 -- What the records of a session are: one honest run, none, or perhaps one.
 use Rattle.std.specs.Prelude.{◌≡◌, ℕ, ◌⊎◌, List, slice_get, take, Option, Some, None}
+use Rattle.std.specs.List.{AllByRecursion}
+use Rattle.srm_names.specs.Histories.{IsPrefix}
+use Rattle.srm_entries.specs.Giving.{given}
 use Rattle.srm_world.specs.Traces.{Trace, IsHonest, IsRun}
 use Rattle.srm_world.specs.Claims.{AgreesAtRest, TakesAreDrawn}
 use Rattle.srm_frames.specs.declared.reading.Record.{Record}
@@ -15,7 +18,7 @@ use Rattle.srm_audited.specs.declared.verdict.Reason.{Reason}
 use Rattle.srm_audited.specs.declared.verdict.Reason.TheVariants.{Untold, Roster, Foreign, Unsent}
 use Rattle.srm_audited.specs.Sessions.{AreOf}
 use Rattle.srm_gaps.specs.Gaps.{journals_of, AreComplete, AreOfOneSession}
-use Rattle.srm_gaps.specs.Possible.{HasOrder, IsRefusedAt}
+use Rattle.srm_gaps.specs.Possible.{calls_told, HasOrder, IsRefusedAt}
 
 -- The trace is one honest run of all members, made of these calls and lists.
 pub record AreHonest (ts : List Told) (gots : List Got) (t : Trace) : Type 0 where
@@ -39,17 +42,37 @@ pub record ArePart (ts : List Told) : Type 0 where
   pub incomplete : ¬ (AreComplete ts)
   pub session : AreOfOneSession ts
 
--- Perhaps an honest run: a record is missing or cut. As they are, the calls aren't one, since a member is missing or an entry hears what isn't sent. But all calls have a possible order.
+-- the list is a prefix of what the calls told of its member gave
+abbrev pub IsGiven : List Told → Got → Type 0
+IsGiven ts got = IsPrefix got.list (given (calls_told ts got.member) got.slot)
+
+abbrev pub AreGiven : List Told → List Got → Type 0
+AreGiven ts gots = AllByRecursion (IsGiven ts) gots
+
+-- the first list that isn't, is of this slot of this member
+pub record IsUngiven (ts : List Told) (gots : List Got) (member slot : ℕ) : Type 0 where
+  pub place : ℕ
+  pub got : Got
+  pub here : slice_get gots place ≡ Some got
+  pub before : AreGiven ts (take place gots)
+  pub ungiven : ¬ (IsGiven ts got)
+  pub member_is : got.member ≡ member
+  pub slot_is : got.slot ≡ slot
+
+-- A record is missing or cut. As they are, the calls aren't one, since a member is missing or an entry hears what isn't sent. But all calls have a possible order,
+-- and page workers took what their members gave.
 pub record AreUndecided (ts : List Told) (gots : List Got) : Type 0 where
   pub part : ArePart ts
   pub refused : AreRefused ts gots mismatches.Roster ⊎ ((m : ℕ) × (n : ℕ) × AreRefused ts gots (mismatches.Unsent m n))
   pub order : HasOrder ts
+  pub given : AreGiven ts gots
 
 -- Why they are no honest run. Where no record is missing or cut, this is what is said of journals. Else the session is judged first, then the calls, then the lists.
 abbrev pub IsReason : List Told → List Got → Reason → Type 0
 IsReason ts gots (Untold place) = ⊥
 IsReason ts gots Roster = (AreComplete ts × AreRefused ts gots mismatches.Roster) ⊎ (¬ (AreComplete ts) × ¬ (AreOfOneSession ts))
-IsReason ts gots (Foreign member slot) = AreRefused ts gots (mismatches.Foreign member slot) × (AreComplete ts ⊎ (ArePart ts × HasOrder ts))
+IsReason ts gots (Foreign member slot) =
+    (AreComplete ts × AreRefused ts gots (mismatches.Foreign member slot)) ⊎ (ArePart ts × HasOrder ts × (IsUngiven ts gots member slot ⊎ AreRefused ts gots (mismatches.Foreign member slot)))
 IsReason ts gots (Unsent member entry) = (AreComplete ts × AreRefused ts gots (mismatches.Unsent member entry)) ⊎ (ArePart ts × IsRefusedAt ts member entry)
 
 abbrev pub IsVerdictOn : List Told → List Got → Verdict → Type 0
@@ -84,7 +107,7 @@ verdict_of_whole mismatches.Roster = Some (NotHonest Roster)
 verdict_of_whole (mismatches.Foreign member slot) = Some (NotHonest (Foreign member slot))
 verdict_of_whole (mismatches.Unsent member entry) = Some (NotHonest (Unsent member entry))
 
--- the same where one is, and all calls have a possible order
+-- the same where one is, all calls have a possible order, and all lists are given
 abbrev pub verdict_of_part : Mismatch → Option Verdict
 verdict_of_part mismatches.Memory = None
 verdict_of_part mismatches.Roster = Some Undecided

@@ -4,9 +4,10 @@ ghost use Rattle.std.specs.Prelude.{◌≡◌, [], Some, IfErr, IfOk, MatchOptio
 ghost use Rattle.srm_gaps.specs.Possible.{HasOrder};
 ghost use Rattle.srm_audited.specs.Sessions.{AreOf};
 ghost use Rattle.srm_gaps.specs.Gaps.{AreComplete};
-ghost use Rattle.srm_audited.specs.Verdicts.{AreHonest, ArePart, IsMismatch, IsUntoldAt, IsVerdict, IsVerdictOn, verdict_of_part, verdict_of_whole};
+ghost use Rattle.srm_audited.specs.Verdicts.{AreGiven, AreHonest, ArePart, IsMismatch, IsUntoldAt, IsVerdict, IsVerdictOn, verdict_of_part, verdict_of_whole};
 
 use crate::gathering::{Gathered, add};
+use crate::giving::first_ungiven;
 use crate::verdict::{Reason, Verdict};
 use srm_audit::{Got, Mismatch, reconcile};
 use srm_frames::Record;
@@ -17,8 +18,8 @@ use std::alloc::{AllocError, Global};
 /// Returns whether records, in any order, are one honest run of all members of a session.
 ///
 /// `Honest` has the run: the calls of the records, each member's in their order, and then what page workers took. `NotHonest` says why no honest run has these records,
-/// whatever stands behind their cuts and in records that are missing; the first record that is of no run comes before all else. `Undecided` comes only where a record is missing or cut, and where each call could follow if the
-/// members of such records sent what was heard of them. Where a record is missing, what page workers took isn't compared with what they were given.
+/// whatever stands behind their cuts and in records that are missing; the first record that is of no run comes before all else. `Undecided` comes only where a record is missing or cut, where each call could follow if the
+/// members of such records sent what was heard of them, and where page workers took what their members gave.
 ///
 /// Fails only if out of memory. Makes each record's calls anew, once; stores the bytes of each datagram that was sent, twice where a record is missing or cut.
 pub fn audit(alloc: Global, records: &[Record]) -> Result<Verdict, AllocError>
@@ -108,9 +109,23 @@ fn suppose(alloc: Global, told: Vec<Told>, gots: Vec<Got>) -> Result<Verdict, Al
 }
 
 // The verdict where a record is missing or cut, and the calls have a possible order.
+#[tactic(auto, using(crate::proofs::Judged::taken_ungiven))]
 fn decide(alloc: Global, told: Vec<Told>, gots: Vec<Got>) -> Result<Verdict, AllocError>
     requires part { ArePart told.items }
     requires order { HasOrder told.items }
+    ensures { IfOk result (IsVerdictOn told.items gots.items) }
+{
+    if let Some((member, slot)) = first_ungiven(&told, &gots) {
+        return Ok(Verdict::NotHonest(Reason::Foreign { member, slot }));
+    }
+    settle(alloc, told, gots)
+}
+
+// The same, and page workers took what their own members gave.
+fn settle(alloc: Global, told: Vec<Told>, gots: Vec<Got>) -> Result<Verdict, AllocError>
+    requires part { ArePart told.items }
+    requires order { HasOrder told.items }
+    requires given { AreGiven told.items gots.items }
     ensures { IfOk result (IsVerdictOn told.items gots.items) }
 {
     match put_together(alloc, told, gots) {

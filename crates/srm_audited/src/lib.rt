@@ -6,7 +6,7 @@
 //! match audit(alloc, records.as_slice())? {
 //!     Verdict::Honest(trace) => {}        // the run, all of it
 //!     Verdict::NotHonest(reason) => {}    // no honest run has these records
-//!     Verdict::Undecided => {}            // perhaps: a record is missing or cut
+//!     Verdict::Undecided => {}            // a record is missing or cut, and nothing excludes such a run
 //! }
 //! ```
 //!
@@ -20,6 +20,7 @@
 
 mod auditing;
 mod gathering;
+mod giving;
 mod laws;
 mod verdict;
 

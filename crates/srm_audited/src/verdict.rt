@@ -10,7 +10,7 @@ pub enum Verdict {
     Honest(Trace),
     /// No honest run.
     NotHonest(Reason),
-    /// Perhaps an honest run: a record is missing or cut, and what is missing may have been sent there.
+    /// A record is missing or cut, and no order of the calls that are there excludes an honest run: what was heard may have been sent where a record ends or is missing.
     Undecided,
 }
 
