@@ -1,5 +1,5 @@
 -- What is printed of a verdict, in examples.
-use Rattle.std.specs.Prelude.{◌≡◌, ℕ, [], ◌∷◌, map, codes, true, false, None, refl}
+use Rattle.std.specs.Prelude.{◌≡◌, ℕ, [], ◌∷◌, map, codes, true, false, refl}
 use Rattle.std.specs.Fmt.{digits}
 use Rattle.srm_frames.specs.declared.line.Call.{Call}
 use Rattle.srm_frames.specs.declared.line.Call.TheVariants.{Ticked, AskedLeave, Gave, Ended}
@@ -12,12 +12,16 @@ abbrev at : ℕ → Call → Line
 at moment call = record { moment = moment; call = call }
 
 -- the give at 30 waits for its moment, and that at 20 doesn't
-calls_of_entries : map (call_at None (at 10 Ticked ∷ at 20 Ticked ∷ at 20 (Gave 0) ∷ at 30 (Gave 0) ∷ at 30 AskedLeave ∷ [])) (0 ∷ 1 ∷ 2 ∷ 3 ∷ 4 ∷ 5 ∷ []) ≡ 0 ∷ 1 ∷ 2 ∷ 3 ∷ 3 ∷ 4 ∷ []
+calls_of_entries : map (call_at 0 (at 10 Ticked ∷ at 20 Ticked ∷ at 20 (Gave 0) ∷ at 30 (Gave 0) ∷ at 30 AskedLeave ∷ [])) (0 ∷ 1 ∷ 2 ∷ 3 ∷ 4 ∷ 5 ∷ []) ≡ 0 ∷ 1 ∷ 2 ∷ 3 ∷ 3 ∷ 4 ∷ []
 calls_of_entries = refl
 
 -- so does a give that is the first call
-behind_a_give : map (call_at None (at 5 (Gave 0) ∷ at 40 Ticked ∷ [])) (0 ∷ 1 ∷ 2 ∷ []) ≡ 0 ∷ 0 ∷ 1 ∷ []
+behind_a_give : map (call_at 0 (at 5 (Gave 0) ∷ at 40 Ticked ∷ [])) (0 ∷ 1 ∷ 2 ∷ []) ≡ 0 ∷ 0 ∷ 1 ∷ []
 behind_a_give = refl
+
+-- and one at the moment when its member was made doesn't
+at_once : map (call_at 5 (at 5 (Gave 0) ∷ at 40 Ticked ∷ [])) (0 ∷ 1 ∷ []) ≡ 0 ∷ 1 ∷ []
+at_once = refl
 
 calls : map is_call (Ticked ∷ Gave 0 ∷ Ended ∷ []) ≡ true ∷ true ∷ false ∷ []
 calls = refl

@@ -47,27 +47,23 @@ members_of (r ∷ rs) = r.beginning.config.members
 
 -- ---- which call of a record an entry of its replay comes of
 
--- no call before had this moment or a later one
-abbrev pub is_later : Option ℕ → ℕ → Bool
-is_later None moment = true
-is_later (Some last) moment = nat_lt last moment
-
 -- A call is an entry. Where a give's moment hasn't come, the replay lets it come first, which is an entry too.
 abbrev pub entries_of_call : Bool → Call → ℕ
 entries_of_call true (Gave slot) = 2
 entries_of_call later call = 1
 
-abbrev pub entries_of : Option ℕ → Line → ℕ
-entries_of last l = entries_of_call (is_later last l.moment) l.call
+-- the entries of a line, where this was the last moment before
+abbrev pub entries_of : ℕ → Line → ℕ
+entries_of last l = entries_of_call (nat_lt last l.moment) l.call
 
--- the call that an entry comes of, both from 0, behind calls whose last had this moment
-abbrev pub call_at : Option ℕ → List Line → ℕ → ℕ
+-- the call that an entry comes of, both from 0, where this was the last moment before
+abbrev pub call_at : ℕ → List Line → ℕ → ℕ
 call_at last [] entry = 0
-call_at last (l ∷ ls) entry = if nat_lt entry (entries_of last l) then 0 else 1 + call_at (Some l.moment) ls (entry - entries_of last l)
+call_at last (l ∷ ls) entry = if nat_lt entry (entries_of last l) then 0 else 1 + call_at l.moment ls (entry - entries_of last l)
 
 abbrev pub call_in : Option Record → ℕ → ℕ
 call_in None entry = entry
-call_in (Some r) entry = call_at None r.lines.items entry
+call_in (Some r) entry = call_at r.beginning.made r.lines.items entry
 
 -- the record of a member: the first, if there are several
 abbrev pub record_of : List Record → ℕ → Option Record

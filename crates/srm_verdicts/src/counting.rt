@@ -1,6 +1,6 @@
 //! What is counted in records.
 
-ghost use Rattle.std.specs.Prelude.{◌≡◌, None, option_map};
+ghost use Rattle.std.specs.Prelude.{◌≡◌, option_map};
 ghost use Rattle.srm_audited.specs.Sessions.{is_cut};
 ghost use Rattle.srm_verdicts.specs.VerdictTexts as spec;
 
@@ -70,15 +70,15 @@ pub fn call_of_entry(records: &[Record], member: Member, entry: usize) -> usize
     ensures { result ≡ spec.call_of_entry records.now member entry }
 {
     match record_of(records, member.number()) {
-        Some(read) => call_at(read.lines.as_slice(), entry),
+        Some(read) => call_at(read.beginning.made, read.lines.as_slice(), entry),
         None => entry,
     }
 }
 
-fn call_at(lines: &[Line], entry: usize) -> usize
-    ensures { result ≡ spec.call_at None lines.now entry }
+fn call_at(made: u64, lines: &[Line], entry: usize) -> usize
+    ensures { result ≡ spec.call_at made lines.now entry }
 {
-    let mut last = None;
+    let mut last = made;
     let mut left = entry;
     for (place, line) in lines.iter().enumerate() {
         let count = entries_of(last, line);
@@ -86,27 +86,18 @@ fn call_at(lines: &[Line], entry: usize) -> usize
             return place;
         }
         left -= count;
-        last = Some(line.moment);
+        last = line.moment;
     }
     lines.len()
 }
 
-// How many entries of a replay come of a line, behind a call of this moment if there was one.
-fn entries_of(last: Option<u64>, line: &Line) -> usize
+// How many entries of a replay come of a line, where this was the last moment before.
+fn entries_of(last: u64, line: &Line) -> usize
     ensures { result ≡ spec.entries_of last line.now }
 {
     match line.call {
-        Call::Gave(_) if is_later(last, line.moment) => 2,
+        Call::Gave(_) if last < line.moment => 2,
         _ => 1,
-    }
-}
-
-fn is_later(last: Option<u64>, moment: u64) -> bool
-    ensures { result ≡ spec.is_later last moment }
-{
-    match last {
-        Some(last) => last < moment,
-        None => true,
     }
 }
 
