@@ -1,7 +1,6 @@
 -- Pages as numbers, and back.
-use Rattle.std.proofs.Common.{◌≡◌, ℕ, ◌+◌, ◌-◌, ◌*◌, ◌/◌, ◌%◌, ◌<◌, ◌≤◌, ap, sym, ◌∙◌, arith}
-use Rattle.srm_names.specs.declared.page.Page.{Page}
-use Rattle.srm_live.specs.PageCodes.{code_of, IsNoCode}
+use Rattle.std.proofs.Common.{ℕ, ◌-◌, ◌/◌, ◌≤◌, arith}
+use Rattle.srm_live.specs.PageCodes.{IsNoCode}
 
 -- a code is above 0, and its page has a member
 pub no_code : (code : ℕ) → 32 ≤ (code - 1) / 65536 → IsNoCode code

@@ -8,8 +8,8 @@
 //! it comes, and prints each message as it is taken. It owns its streams, since its threads read and write them. Its input must say where nothing is there yet, as
 //! [`PolledInput`] does.
 //!
-//! **Errors**, in this order: a key file that can't be used, an address that can't be bound, and what ends a run. A line that is too long is no error. If several
-//! things befell a run, it tells one: out of memory, else what ended the node's run, else an output that failed, else an input that did.
+//! **Errors**, in this order: a key file that can't be used, a record whose file can't be made, an address that can't be bound, and what ends a run. A line that is too long is no error. If several
+//! things befell a run, it tells one: out of memory, else what ended the node's run, else a record that isn't whole, else an output that failed, else an input that did.
 //! [`MemberFault`](srm_member::MemberFault) has the text and the status of each; an address that can't be bound and a call of the socket that fails are told with the
 //! cause: `srm: cannot bind 127.0.0.1:80: permission denied`. A member that was in the session before, under the same number, is told so once, goes on, and ends with the status
 //! [`WAS_BEFORE`].

@@ -187,17 +187,17 @@ fn add_one(count: &AtomicU64) {
 /// What passed a member's wire, and what its agent made of it. Its text is the line for what goes on.
 #[derive(Clone, Copy, Debug, PartialEq, Eq)]
 pub struct Activity {
-    /// How many other members the session has, and of how many a datagram came.
+    /// How many other members the session has.
     pub others: u8,
     /// Of how many of these a datagram came.
     pub heard: u32,
     /// The drawops that the member misses now.
     pub missing: usize,
-    /// The datagrams that were sent, and those that came from others.
+    /// The datagrams that were sent.
     pub sent: u64,
     /// The datagrams that came from others.
     pub came: u64,
-    /// The requests and the repairs among those that were sent.
+    /// The requests among those that were sent.
     pub requests: u64,
     /// The repairs among those that were sent.
     pub repairs: u64,
