@@ -84,6 +84,11 @@ fn a_take_that_was_not_given(rt: HostRuntime) {
         judge(&rt, alloc, &[one.as_slice(), lies.as_slice()]),
         Judged::Foreign(1, 0)
     );
+    // The member's own calls say so, whatever the record of the other has.
+    assert_eq!(rt;
+        judge(&rt, alloc, &[lies.as_slice()]),
+        Judged::Foreign(1, 0)
+    );
 }
 
 // Without the last one the worker took a prefix of what it was given, and without the first it didn't.
@@ -159,6 +164,12 @@ fn a_missing_record(rt: HostRuntime) {
         judge(&rt, alloc, &[one.as_slice(), one.as_slice()]),
         Judged::Roster
     );
+    // Without the first take of its worker.
+    let lacks = changed(&rt, alloc, one.as_slice(), 130, 152, &[]);
+    assert_eq!(rt;
+        judge(&rt, alloc, &[lacks.as_slice()]),
+        Judged::Foreign(0, 0)
+    );
 }
 
 #[test]
@@ -176,6 +187,14 @@ fn a_record_that_is_cut(rt: HostRuntime) {
     assert_eq!(rt;
         judge(&rt, alloc, &[front.as_slice(), other.as_slice()]),
         Judged::Honest(3)
+    );
+    // Behind the takes, without the first.
+    let lacks = changed(&rt, alloc, one.as_slice(), 130, 152, &[]);
+    let end = lacks.len().saturating_sub(17);
+    let front = changed(&rt, alloc, lacks.as_slice(), end, lacks.len(), &[]);
+    assert_eq!(rt;
+        judge(&rt, alloc, &[front.as_slice(), other.as_slice()]),
+        Judged::Foreign(0, 0)
     );
 }
 

@@ -27,3 +27,5 @@ mod sessions;
 mod tampering;
 #[cfg(test)]
 mod worked;
+#[cfg(test)]
+mod writes;
