@@ -14,13 +14,10 @@ fn a_backlog_without_loss_makes_few_requests(rt: HostRuntime) -> Result<(), Fail
     let alloc = rt.alloc();
     let first = repeated(alloc, LINE, 600)?;
     let others = repeated(alloc, LINE, 400)?;
-    let roles = alike(
-        "--stay 10000000",
-        [first.as_slice(), others.as_slice(), others.as_slice()],
-    );
-    let members = run_three(&rt, alloc, roles)?;
+    let inputs = [first.as_slice(), others.as_slice(), others.as_slice()];
+    let members = run_three(&rt, alloc, alike("--stay 10000000", inputs))?;
     let sent = sent_kinds(&members);
     assert_eq!(rt; sent.data, 1_400);
     assert!(rt; sent.requests_and_repairs <= 140, "{sent:?}");
-    assert_three(&rt, &members, [600, 400, 400])
+    assert_three(&rt, &members, inputs)
 }

@@ -11,8 +11,8 @@ use std::rt::Files;
 use std::sync::{Arc, Wait};
 use std::test::Fail;
 use std::thread::Threads;
-use std::time::Clock;
-use std::{env, fs, io};
+use std::time::{Clock, Duration};
+use std::{env, fs, io, thread};
 
 /// A session message of member 0 in session 7, sent at 0, that tells of no stroke.
 const HELLO: &[u8] = &[
@@ -42,6 +42,30 @@ const FIVE: &[u8] = &[
     0, 0, 0, 0, 0, 0, 0, 5, 0, // row, and no echo
 ];
 
+const FOUR: &[u8] = &[
+    0x53, 0x52, 1, 4, 0, 0, 0, 7, 0, 0, 0, 0, 0, 0, 0, 0, 0, 0, 0, 0, 0, 1, // message
+    0, 0, 0, 0, 0, 0, 0, 4, 0, // row, and no echo
+];
+
+/// The first stroke of member 0 on the first page, `hi`.
+const FIRST: &[u8] = &[
+    0x53, 0x52, 1, 1, 0, 0, 0, 7, 0, 0, 0, 0, 0, 0, 0, 0, 1, // name
+    0, 0, 0, 0, 0, 0, 0, 0, 0, 2, b'h', b'i', // stamp and body
+];
+
+/// The same with its tag by that key, and one that says `ho` with the same tag.
+const FIRST_TAGGED: &[u8] = &[
+    0x53, 0x52, 1, 1, 0, 0, 0, 7, 0, 0, 0, 0, 0, 0, 0, 0, 1, // name
+    0, 0, 0, 0, 0, 0, 0, 0, 0, 2, b'h', b'i', // stamp and body
+    0x2c, 0x9e, 0x4b, 0xe9, 0xca, 0x63, 0x98, 0xc4, 0xde, 0x3a, 0xb7, 0xd4, 0xee, 0xc4, 0x44, 0x93,
+];
+
+const FIRST_FORGED: &[u8] = &[
+    0x53, 0x52, 1, 1, 0, 0, 0, 7, 0, 0, 0, 0, 0, 0, 0, 0, 1, // name
+    0, 0, 0, 0, 0, 0, 0, 0, 0, 2, b'h', b'o', // stamp and body
+    0x2c, 0x9e, 0x4b, 0xe9, 0xca, 0x63, 0x98, 0xc4, 0xde, 0x3a, 0xb7, 0xd4, 0xee, 0xc4, 0x44, 0x93,
+];
+
 /// What comes to member 1.
 #[derive(Clone, Copy)]
 pub(crate) enum Come {
@@ -49,12 +73,15 @@ pub(crate) enum Come {
     Known(&'static [u8]),
     /// These bytes, from an address outside the roster.
     Strange(&'static [u8]),
+    /// Nothing, until the output has this text.
+    Await(&'static str),
 }
 
-/// An input that sends one datagram after another to member 1, and ends once that told that member 0 is here. It fails where that isn't told within 30,000 looks, each a millisecond or more.
+/// An input that sends one datagram after another to member 1, and ends once that told that member 0 is here. It fails after 30,000 looks, each a millisecond or more.
 #[derive(Drop)]
 pub(crate) struct Coming<R: Wait + Drop> {
     rt: R,
+    out: Written,
     err: Written,
     known: UdpSocket,
     strange: UdpSocket,
@@ -65,28 +92,31 @@ pub(crate) struct Coming<R: Wait + Drop> {
 }
 
 impl<R: Wait + Drop> Coming<R> {
-    fn send(&self, come: Come) -> io::Result<()> {
+    /// Whether this is done.
+    fn send(&self, come: Come) -> io::Result<bool> {
         match come {
             Come::Known(bytes) => self.known.send_to(bytes, self.to)?,
             Come::Strange(bytes) => self.strange.send_to(bytes, self.to)?,
+            Come::Await(text) => return Ok(has(&self.rt, &self.out, text)),
         };
-        Ok(())
+        Ok(true)
     }
 }
 
 impl<R: Wait + Drop> Read for Coming<R> {
     fn read(&mut self, _buffer: &mut [u8]) -> io::Result<usize> {
+        self.looks = self.looks.saturating_add(1);
+        if self.looks > 30_000 {
+            return Err(io::Error::from(ErrorKind::BrokenPipe));
+        }
         if let Some(come) = self.comes.get(self.at).copied() {
-            self.at = self.at.saturating_add(1);
-            self.send(come)?;
+            if self.send(come)? {
+                self.at = self.at.saturating_add(1);
+            }
             return Err(io::Error::from(ErrorKind::WouldBlock));
         }
         if has(&self.rt, &self.err, "member 0 is here") {
             return Ok(0);
-        }
-        self.looks = self.looks.saturating_add(1);
-        if self.looks > 30_000 {
-            return Err(io::Error::from(ErrorKind::BrokenPipe));
         }
         Err(io::Error::from(ErrorKind::WouldBlock))
     }
@@ -107,6 +137,7 @@ where
     let (out, err) = streams(alloc, false)?;
     let input = Input::Coming(Coming {
         rt: *rt,
+        out: Arc::try_clone(&out)?,
         err: Arc::try_clone(&err)?,
         known,
         strange,
@@ -166,15 +197,22 @@ fn any_origin_will_do_where_that_is_asked_for(rt: HostRuntime) -> Result<(), Fai
     assert_tells(&rt, " --any-origin", comes, &[HERE, NOT_LEFT])
 }
 
-#[test]
-fn what_has_no_right_tag_is_dropped(rt: HostRuntime) -> Result<(), Fail> {
+/// A new file with the key of the bytes 0 to 31.
+fn key_file<R: Net + Files + env::Env + AllocGlobal>(rt: &R) -> io::Result<String> {
     let mut key = [0; 32];
     for (number, byte) in (0..32).zip(key.iter_mut()) {
         *byte = number;
     }
-    let name = format!(in rt.alloc(); "srm-key-{}", crate::rig::free_port(&rt)?)?;
-    let path = env::temp_dir(&rt)?.join(rt.alloc(), name.as_str())?;
-    fs::write(&rt, path.as_path(), key.as_slice())?;
+    let folder = env::temp_dir(rt)?;
+    let port = crate::rig::free_port(rt)?;
+    let path = format!(in rt.alloc(); "{}/srm-key-{port}", folder.as_str())?;
+    fs::write(rt, path.as_str(), key.as_slice())?;
+    Ok(path)
+}
+
+#[test]
+fn what_has_no_right_tag_is_dropped(rt: HostRuntime) -> Result<(), Fail> {
+    let path = key_file(&rt)?;
     let comes = &[
         Come::Known(HELLO),
         Come::Known(FORGED),
@@ -190,14 +228,50 @@ fn what_has_no_right_tag_is_dropped(rt: HostRuntime) -> Result<(), Fail> {
     ];
     let words = format!(in rt.alloc(); " --key {}", path.as_str())?;
     assert_tells(&rt, words.as_str(), comes, &lines)?;
-    fs::remove_file(&rt, path.as_path())?;
+    fs::remove_file(&rt, path.as_str())?;
     Ok(())
 }
 
-// The first would make five missing; the other makes three, which aren't there at the end.
+/// Sends a stroke with a wrong tag and one with its own to a member, again and again for two seconds.
+fn send_tagged<R: Clock + Wait>(rt: &R, socket: &UdpSocket, to: SocketAddr) {
+    for _ in 0..100 {
+        let _ = socket.send_to(FIRST_FORGED, to);
+        let _ = socket.send_to(FIRST_TAGGED, to);
+        thread::sleep(rt, Duration::from_micros(20_000));
+    }
+}
+
+// Another key than the file's would take neither stroke.
+#[test]
+fn a_member_that_is_not_live_has_the_key_of_its_file(rt: HostRuntime) -> Result<(), Fail> {
+    let path = key_file(&rt)?;
+    let (socket, first) = bound(&rt)?;
+    let (own, to) = bound(&rt)?;
+    drop(own);
+    let sending = thread::spawn(&rt, move || send_tagged(&rt, &socket, to))?;
+    let line = format!(in rt.alloc();
+        "--session 7 --me 1 --stay 1500000 --key {} {first} {to}",
+        path.as_str()
+    )?;
+    let ran = crate::rig::run(&rt, line.as_str(), b"")?;
+    sending.join(&rt);
+    assert_eq!(rt; ran.status, 0);
+    let printed = str::from_utf8(ran.out.as_slice()).unwrap_or("");
+    assert!(rt; printed.contains("took 1 0 draw 0 1 hi\n"), "{printed}");
+    fs::remove_file(&rt, path.as_str())?;
+    Ok(())
+}
+
+// The first row would make five missing. The next makes three, and one of them comes. The last makes it three again, which aren't there at the end.
 #[test]
 fn what_would_make_too_much_missing_is_dropped(rt: HostRuntime) -> Result<(), Fail> {
-    let comes = &[Come::Known(FIVE), Come::Known(THREE)];
+    let comes = &[
+        Come::Known(FIVE),
+        Come::Known(THREE),
+        Come::Known(FIRST),
+        Come::Await("took 1 0 draw 0 1 hi\n"),
+        Come::Known(FOUR),
+    ];
     let lines = [
         HERE,
         NOT_LEFT,

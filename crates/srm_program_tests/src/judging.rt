@@ -55,28 +55,38 @@ fn assert_front<R: Abort + AllocGlobal>(
     Ok(())
 }
 
-/// A member ended well, and its worker took so many of the member's drawops.
+/// A member ended well, and its worker took the member's own drawops: the lines of its input, which several producers draw in any order.
 fn assert_ended<R: Abort + AllocGlobal>(
     rt: &R,
     hosted: &Hosted,
     me: u8,
-    drew: usize,
+    input: &[u8],
 ) -> Result<(), AllocError> {
     assert_eq!(rt; hosted.end, Ok(()));
     assert_eq!(rt; hosted.worked.len(), 8);
-    assert_eq!(rt; bodies_by(rt.alloc(), first_page(hosted), me)?.len(), drew);
+    let drawn = bodies_by(rt.alloc(), first_page(hosted), me)?;
+    let mut lines = Vec::new(rt.alloc());
+    for line in input.split(|byte| *byte == b'\n') {
+        if !line.is_empty() {
+            lines.push(line)?;
+        }
+    }
+    assert_eq!(rt; drawn.len(), lines.len());
+    for line in lines {
+        assert!(rt; drawn.iter().any(|body| body.as_slice() == line));
+    }
     Ok(())
 }
 
-/// Three members ended well. Each drew so many, and took of each other what `assert_front` says.
+/// Three members ended well. Each drew the lines of its input, and took of each other what `assert_front` says.
 pub(crate) fn assert_three<R: Abort + AllocGlobal>(
     rt: &R,
     members: &[Hosted],
-    drew: [usize; 3],
+    inputs: [&[u8]; 3],
 ) -> Result<(), Fail> {
     assert_eq!(rt; members.len(), 3);
-    for ((own, source), count) in members.iter().zip(0..3).zip(drew) {
-        assert_ended(rt, own, source, count)?;
+    for ((own, source), input) in members.iter().zip(0..3).zip(inputs) {
+        assert_ended(rt, own, source, input)?;
         for viewer in members {
             assert_front(rt, viewer, own, source)?;
         }

@@ -68,7 +68,7 @@ struct Heard {
 enum Role {
     /// It asks for that stroke again and again.
     Asks,
-    /// It sends its own second stroke, and later its first one.
+    /// It sends its own second stroke, and later its first one as a repair.
     Owes,
     /// It asks again and again for strokes that nobody drew, several by each request.
     Forges,
@@ -124,9 +124,13 @@ impl<R: Clock + Wait + Drop> Other<R> {
             return Some(());
         }
         let _ = match self.role {
+            Role::Owes if self.sent == 0 => {
+                let second = word(Kind::Data, 1, 1, 0, 2);
+                self.socket.send_to(&second, self.to)
+            }
             Role::Owes => {
-                let stroke = word(Kind::Data, 1, 1, 0, most.saturating_sub(self.sent));
-                self.socket.send_to(&stroke, self.to)
+                let first = word(Kind::Repair, 1, 1, 0, 1);
+                self.socket.send_to(&first, self.to)
             }
             Role::Asks => self.socket.send_to(&request(1, 0, 0, 1), self.to),
             Role::Forges => self.socket.send_to(&requests(1, 1, 5, 0b101), self.to),
@@ -202,6 +206,8 @@ fn a_live_member_stays_while_it_misses_a_stroke(rt: HostRuntime) -> Result<(), F
     let heard = heard.ok_or("no farewell")?;
     assert_eq!(rt; heard.sent, 2);
     assert!(rt; heard.quiet >= Duration::from_micros(LINGER));
+    // It waits for nothing once it has the repair.
+    assert!(rt; heard.quiet < Duration::from_micros(OWED));
     Ok(())
 }
 

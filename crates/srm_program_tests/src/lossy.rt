@@ -3,7 +3,7 @@
 use crate::judging::assert_three;
 use crate::relay::{Relay, Relayed, stops_before};
 use crate::rig::bound;
-use crate::three::{Role, alike, run_over};
+use crate::three::{FOUR_EACH, Role, alike, run_over};
 use srm_node::Hosted;
 use std::alloc::Global;
 use std::net::Net;
@@ -32,14 +32,11 @@ where
 
 #[test]
 fn three_members_take_what_was_drawn_over_a_lossy_way(rt: HostRuntime) -> Result<(), Fail> {
-    let roles = alike(
-        "--stay 5000000",
-        [b"a\nb\nc\nd\n", b"e\nf\ng\nh\n", b"i\nj\nk\nl\n"],
-    );
+    let roles = alike("--stay 5000000", FOUR_EACH);
     let (members, relayed) = run_over_relay(&rt, rt.alloc(), roles)?;
     for to_member in relayed {
         assert!(rt; to_member.dropped >= 3, "{to_member:?}");
         assert!(rt; to_member.doubled >= 3, "{to_member:?}");
     }
-    assert_three(&rt, &members, [4; 3])
+    assert_three(&rt, &members, FOUR_EACH)
 }

@@ -15,7 +15,7 @@ use std::rt::Files;
 use std::sync::{Arc, Wait};
 use std::test::Fail;
 use std::thread::Threads;
-use std::time::Clock;
+use std::time::{Clock, Instant};
 
 /// What member 0 does, which is the input of member 1 too.
 #[derive(Clone, Copy)]
@@ -230,5 +230,9 @@ fn who_is_silent_for_ten_seconds_is_told(rt: HostRuntime) -> Result<(), Fail> {
         NEITHER_LEFT,
         FIVE_MISSING,
     ];
-    assert_tells(&rt, acts, 0, &lines)
+    let start = Instant::now(&rt)?;
+    assert_tells(&rt, acts, 0, &lines)?;
+    let passed = start.elapsed(&rt)?.as_secs();
+    assert!(rt; (10..18).contains(&passed), "{passed}");
+    Ok(())
 }

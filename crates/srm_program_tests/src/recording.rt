@@ -1,12 +1,15 @@
 //! Members that write their records, and what `srm audit` says of these.
 
 use crate::example::run_owned;
+use crate::inputs::Input;
+use crate::lives::{GIVEN, Written, has, keep_in, output_in, run_member, streams};
 use crate::relay::{Relay, stops_before};
-use crate::rig::{bound, free_port, run};
+use crate::rig::{bound, free_port, options_of, run};
+use crate::three::FOUR_EACH;
 use srm_member::print_reply;
 use srm_options::read_audit;
 use srm_played::run_picture;
-use srm_rig::Ran;
+use srm_rig::{Ran, repeated};
 use srm_script::{Dialect, run_script_in};
 use srm_verdicts::run_audit;
 use std::alloc::{AllocError, Global};
@@ -19,8 +22,8 @@ use std::thread::Threads;
 use std::time::Clock;
 use std::{env, fs, io, thread};
 
-/// What each of three members draws.
-const INPUTS: [&[u8]; 3] = [b"a\nb\nc\nd\n", b"e\nf\ng\nh\n", b"i\nj\nk\nl\n"];
+/// What the random waits of the three members start from, eight bytes in their records behind the first 27.
+const SEED: [u8; 8] = [0, 0, 0, 0, 0, 1, 0, 5];
 
 /// A path where no file is, of the system's folder for such files. The port is one that nobody else has.
 fn new_path<R: Net + Files + env::Env + AllocGlobal>(
@@ -57,7 +60,9 @@ fn line_of(
     own: [SocketAddr; 3],
     to: [SocketAddr; 3],
 ) -> Result<String, AllocError> {
-    let mut line = format!(in alloc; "--session 7 --me {me} --stay 2000000 --record {path}")?;
+    let mut line = format!(in alloc;
+        "--session 7 --me {me} --start 65541 --stay 2000000 --record {path}"
+    )?;
     for ((number, at), over) in (0..3_u8).zip(own).zip(to) {
         let address = if number == me { at } else { over };
         line.push_str(format!(in alloc; " {address}")?.as_str())?;
@@ -168,7 +173,7 @@ fn three_members_over_a_lossy_way_are_honest_and_played_again(rt: HostRuntime) -
     let (relay, own, to) = relay_before_three(&rt, alloc)?;
     let mut paths = Vec::new(alloc);
     let mut running = Vec::new(alloc);
-    for (me, input) in (0..3_u8).zip(INPUTS) {
+    for (me, input) in (0..3_u8).zip(FOUR_EACH) {
         let path = new_path(&rt, me, own[0].port())?;
         let line = line_of(alloc, me, path.as_str(), own, to)?;
         let input = input.to_vec(alloc)?;
@@ -190,8 +195,44 @@ fn three_members_over_a_lossy_way_are_honest_and_played_again(rt: HostRuntime) -
     let texts = [first.as_str(), second.as_str(), third.as_str()];
     assert_recorded(&rt, texts, printed.as_slice())?;
     for path in texts {
+        let record = fs::read(&rt, path)?;
+        assert_eq!(rt; record.get(27..35), Some(SEED.as_slice()));
         fs::remove_file(&rt, path)?;
     }
+    Ok(())
+}
+
+/// Runs a live member by itself that writes its record to a path and is given a line. Its status, and what it told.
+fn run_live_alone<R>(rt: &R, path: &str) -> Result<(u8, Written), Fail>
+where
+    R: Net + Files + Clock + Threads + Wait + AllocGlobal + Copy + Send + Drop + 'static,
+{
+    let alloc = rt.alloc();
+    let port = free_port(rt)?;
+    let line = format!(in alloc;
+        "--session 7 --me 0 --live --stay 0 --record {path} 127.0.0.1:{port}"
+    )?;
+    let options = options_of(alloc, line.as_str()).ok_or("options")?;
+    let (out, err) = streams(alloc, false)?;
+    let to_out = output_in(rt, alloc, &out, GIVEN)?;
+    let to_err = keep_in(rt, &err, false)?;
+    let status = run_member(rt, options, Input::Text(b"hi\n"), to_out, to_err);
+    Ok((status, err))
+}
+
+#[test]
+fn a_live_member_writes_its_record(rt: HostRuntime) -> Result<(), Fail> {
+    let path = new_path(&rt, 0, free_port(&rt)?)?;
+    let (status, _) = run_live_alone(&rt, path.as_str())?;
+    assert_eq!(rt; status, 0);
+    let out = played(&rt, &["--script", path.as_str()])?;
+    let text = str::from_utf8(out.as_slice()).unwrap_or("");
+    assert!(rt; text.contains("took 0 0 draw 0 1 hi\n"), "{text}");
+    // The second run finds the file of the first.
+    let (status, told) = run_live_alone(&rt, path.as_str())?;
+    assert_eq!(rt; status, 1);
+    assert!(rt; has(&rt, &told, "srm: record\n"));
+    fs::remove_file(&rt, path.as_str())?;
     Ok(())
 }
 
@@ -211,6 +252,23 @@ fn a_record_takes_no_file_that_is_there(rt: HostRuntime) -> Result<(), Fail> {
     assert_eq!(rt; again.status, 1);
     assert_eq!(rt; again.err.as_slice(), b"srm: record\n".as_slice());
     assert_eq!(rt; audited(&rt, &[path.as_str()]).status, 0);
+    fs::remove_file(&rt, path.as_str())?;
+    Ok(())
+}
+
+// The input is read before the file is made.
+#[test]
+fn an_input_that_is_refused_leaves_no_record(rt: HostRuntime) -> Result<(), Fail> {
+    let port = free_port(&rt)?;
+    let path = new_path(&rt, 0, port)?;
+    let line = format!(in rt.alloc();
+        "--session 7 --me 0 --stay 0 --record {} 127.0.0.1:{port}",
+        path.as_str()
+    )?;
+    let too_long = repeated(rt.alloc(), "a", 1_025)?;
+    let ran = run(&rt, line.as_str(), too_long.as_slice())?;
+    assert_eq!(rt; ran.status, 1);
+    assert_eq!(rt; run(&rt, line.as_str(), b"hi\n")?.status, 0);
     fs::remove_file(&rt, path.as_str())?;
     Ok(())
 }

@@ -17,6 +17,9 @@ use std::thread;
 use std::thread::{JoinHandle, Threads};
 use std::time::Clock;
 
+/// Four strokes of each of three members.
+pub(crate) const FOUR_EACH: [&[u8]; 3] = [b"a\nb\nc\nd\n", b"e\nf\ng\nh\n", b"i\nj\nk\nl\n"];
+
 /// What a member is told beside its own number and the addresses, and its strokes.
 #[derive(Clone, Copy)]
 pub(crate) struct Role<'a> {
@@ -164,19 +167,16 @@ where
 
 #[test]
 fn three_members_take_what_was_drawn(rt: HostRuntime) -> Result<(), Fail> {
-    let roles = alike(
-        "--stay 2000000",
-        [b"a\nb\nc\nd\n", b"e\nf\ng\nh\n", b"i\nj\nk\nl\n"],
-    );
-    let members = run_three(&rt, rt.alloc(), roles)?;
-    assert_three(&rt, &members, [4; 3])
+    let members = run_three(&rt, rt.alloc(), alike("--stay 2000000", FOUR_EACH))?;
+    assert_three(&rt, &members, FOUR_EACH)
 }
 
 // What goes to the first is lost once it has ended.
 #[test]
 fn the_first_that_ends_ends_no_other(rt: HostRuntime) -> Result<(), Fail> {
-    let [mut first, second, third] = alike("--stay 3000000", [b"a\n", b"b\n", b"c\n"]);
+    let inputs: [&[u8]; 3] = [b"a\n", b"b\n", b"c\n"];
+    let [mut first, second, third] = alike("--stay 3000000", inputs);
     first.options = "--stay 1000000";
     let members = run_three(&rt, rt.alloc(), [first, second, third])?;
-    assert_three(&rt, &members, [1; 3])
+    assert_three(&rt, &members, inputs)
 }

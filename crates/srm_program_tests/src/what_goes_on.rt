@@ -89,7 +89,7 @@ fn data(session: u8, source: u8, number: u32) -> [u8; 29] {
 }
 
 /// Member 0 of three, which is the input of member 1 too. It types two lines. Once it has them it asks for them again and sends its second drawop, beside noise and what is ignored;
-/// and its first once that was asked for and member 1 told that it is missing. It types `/who` at each hundredth look. The input ends once all that came was told so, or fails after 10,000 looks.
+/// and its first as a repair once that was asked for and member 1 told that it is missing. It types `/who` at each hundredth look. The input ends once all that came was told so, or fails after 10,000 looks.
 #[derive(Drop)]
 pub(crate) struct Peer<R: Wait + Drop> {
     rt: R,
@@ -139,13 +139,14 @@ impl<R: Wait + Drop> Peer<R> {
         Ok(())
     }
 
-    /// Sends the first drawop, if it was asked for and told as missing.
+    /// Sends the first drawop as a repair, if it was asked for and told as missing.
     fn repair(&mut self) -> io::Result<()> {
         let is_missed = self.requests > 0
             && has(&self.rt, &self.told, "srm: member 0 is here, missing 1\n");
         if is_missed && !self.is_repaired {
             self.is_repaired = true;
-            self.socket.send_to(&data(7, 0, 1), self.to)?;
+            let first = word(Kind::Repair, 0, 0, 0, 1);
+            self.socket.send_to(&first, self.to)?;
         }
         Ok(())
     }
@@ -231,7 +232,14 @@ where
 fn who_asks_is_told_what_goes_on(rt: HostRuntime) -> Result<(), Fail> {
     let (status, out, told) = run_beside(&rt)?;
     assert_eq!(rt; status, 0);
-    assert!(rt; has(&rt, &out, "took 1 0 draw 1 1 one\n"));
+    for text in [
+        "took 1 0 draw 1 1 one\n",
+        "took 1 0 draw 0 1 hi\n",
+        "took 1 0 draw 0 2 hi\n",
+    ] {
+        assert!(rt; has(&rt, &out, text), "{text}");
+    }
+    assert!(rt; has(&rt, &told, "srm: heard 1 of 2, missing 1, sent "));
     assert!(rt; ends_with(&rt, &out, "gone 1\n"));
     assert!(rt; has(&rt, &told, "srm: member 0 is here, missing 0\n"));
     assert!(rt; has(&rt, &told, "srm: member 2 was not heard, missing 0\n"));
