@@ -6,7 +6,7 @@
 //! match audit(alloc, records.as_slice())? {
 //!     Verdict::Honest(trace) => {}        // the run, all of it
 //!     Verdict::NotHonest(reason) => {}    // no honest run has these records
-//!     Verdict::Undecided => {}            // a record is missing or cut, and nothing excludes such a run
+//!     Verdict::Undecided => {}            // a record is missing or cut, and the calls have a possible order
 //! }
 //! ```
 //!

@@ -10,7 +10,7 @@ pub enum Verdict {
     Honest(Trace),
     /// No honest run.
     NotHonest(Reason),
-    /// A record is missing or cut, and no order of the calls that are there excludes an honest run: what was heard may have been sent where a record ends or is missing.
+    /// A record is missing or cut, and the calls have a possible order: each member heard what was sent before, or what a member without a whole record may have sent.
     Undecided,
 }
 

@@ -262,7 +262,7 @@ fn a_member_that_is_not_live_has_the_key_of_its_file(rt: HostRuntime) -> Result<
     Ok(())
 }
 
-// The first row would make five missing. The next makes three, and one of them comes. The last makes it three again, which aren't there at the end.
+// The member misses three strokes at most. FIVE would make it miss five, and is dropped. It hears THREE and misses three, hears one of them, and misses three again by FOUR.
 #[test]
 fn what_would_make_too_much_missing_is_dropped(rt: HostRuntime) -> Result<(), Fail> {
     let comes = &[

@@ -22,7 +22,7 @@ use std::thread::Threads;
 use std::time::Clock;
 use std::{env, fs, io, thread};
 
-/// What the random waits of the three members start from, eight bytes in their records behind the first 27.
+/// The seed of each of the three members, 65,541, as its record has it: eight bytes from byte 27 on.
 const SEED: [u8; 8] = [0, 0, 0, 0, 0, 1, 0, 5];
 
 /// A path where no file is, of the system's folder for such files. The port is one that nobody else has.
@@ -202,7 +202,7 @@ fn three_members_over_a_lossy_way_are_honest_and_played_again(rt: HostRuntime) -
     Ok(())
 }
 
-/// Runs a live member by itself that writes its record to a path and is given a line. Its status, and what it told.
+/// Runs a live member that is the only one of its session. It reads the line `hi`, and writes its record to this path. Returns its status and its standard error.
 fn run_live_alone<R>(rt: &R, path: &str) -> Result<(u8, Written), Fail>
 where
     R: Net + Files + Clock + Threads + Wait + AllocGlobal + Copy + Send + Drop + 'static,

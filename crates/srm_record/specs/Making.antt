@@ -24,7 +24,7 @@ pub record GainsHeard (now : ℕ) (bytes : List ℕ) (old new : Journal) : Type 
   pub grows : Grows (Some now) old new entry
   pub is : (entry.input, entry.verdict) ≡ bytes_heard old.start.config old.entries bytes
 
--- Bytes come that are none, if the moment hadn't come.
+-- The member hears noise of no bytes if the moment hadn't come; else nothing happens.
 abbrev pub Waits : ℕ → Journal → Journal → Type 0
 Waits now old new = MatchBool (nat_lt (last_moment old.start.made old.entries) now) (GainsHeard now [] old new) (new ≡ old)
 

@@ -58,7 +58,7 @@ pub record Adds (old new : FileView) (bytes : List ℕ) : Type 0 where
   pub works : new.failed ≡ false → old.failed ≡ false
   pub waits : new.failed ≡ false → length new.waiting ≤ length old.waiting + length bytes
 
--- the same, where some of the bytes may be written
+-- Bytes stand behind those so far, and any of them may be written.
 pub record GoesOn (old new : FileView) (bytes : List ℕ) : Type 0 where
   pub beginning : new.beginning ≡ old.beginning
   pub first : new.first ≡ old.first
