@@ -159,20 +159,58 @@ four_aside r a b c d p q s t =
     ∙ ap (λ k. after_byte k d) (one_more 16 r two c s)
     ∙ one_more 24 r three d t
 
--- four bytes, and four of zeros behind them
-pub four_and_zeros : (r a b c d : ℕ) → r < 2 ^ 32 → a < 256 → b < 256 → c < 256 → d < 256
-    → remainder_after 32 (after_byte (after_byte (after_byte (after_byte r a) b) c) d)
-    ≡ bit_xor (remainder_after 64 (bit_and (bit_xor r a) 0xff))
-    (bit_xor (remainder_after 56 (bit_and (bit_xor (r / 2 ^ 8) b) 0xff))
-    (bit_xor (remainder_after 48 (bit_and (bit_xor (r / 2 ^ 16) c) 0xff)) (remainder_after 40 (bit_and (bit_xor (r / 2 ^ 24) d) 0xff))))
+module _ (k : ℕ) where
+  more : (m n x : ℕ) → m + 8 * k ≡ n → after_bits (8 * k) (after_bits m x) ≡ after_bits n x
+  more m n x e = then_more m (8 * k) x ∙ ap (λ j. after_bits j x) e
+
+  -- four bytes, and so many bytes of zeros behind them
+  pub four_and_zeros : (r a b c d : ℕ) → r < 2 ^ 32 → a < 256 → b < 256 → c < 256 → d < 256
+      → remainder_after (8 * k) (after_byte (after_byte (after_byte (after_byte r a) b) c) d)
+      ≡ bit_xor (remainder_after (8 * (k + 3) + 8) (bit_and (bit_xor r a) 0xff))
+      (bit_xor (remainder_after (8 * (k + 2) + 8) (bit_and (bit_xor (r / 2 ^ 8) b) 0xff))
+      (bit_xor (remainder_after (8 * (k + 1) + 8) (bit_and (bit_xor (r / 2 ^ 16) c) 0xff)) (remainder_after (8 * k + 8) (bit_and (bit_xor (r / 2 ^ 24) d) 0xff))))
+  unfolding remainder_after
+  four_and_zeros r a b c d small p q s t =
+      let u : ℕ = bit_and (bit_xor r a) 0xff in
+      let v : ℕ = bit_and (bit_xor (r / 2 ^ 8) b) 0xff in
+      let w : ℕ = bit_and (bit_xor (r / 2 ^ 16) c) 0xff in
+      let x : ℕ = bit_and (bit_xor (r / 2 ^ 24) d) 0xff in
+      ap (after_bits (8 * k)) (four_bytes r a b c d small p q s t)
+      ∙ linear (8 * k) (after_bits 32 u) (bit_xor (after_bits 24 v) (bit_xor (after_bits 16 w) (after_bits 8 x)))
+      ∙ both _ _ _ _ (more 32 (8 * (k + 3) + 8) u (omega arith))
+      (linear (8 * k) (after_bits 24 v) (bit_xor (after_bits 16 w) (after_bits 8 x))
+      ∙ both _ _ _ _ (more 24 (8 * (k + 2) + 8) v (omega arith))
+      (linear (8 * k) (after_bits 16 w) (after_bits 8 x) ∙ both _ _ _ _ (more 16 (8 * (k + 1) + 8) w (omega arith)) (more 8 (8 * k + 8) x (omega arith))))
+
+-- a register that was nothing yet, four times four bytes, and what the register leaves by itself
+abbrev four : ℕ → ℕ → ℕ → ℕ → ℕ → ℕ
+four r a b c d = after_byte (after_byte (after_byte (after_byte r a) b) c) d
+
+turned : (w x y z : ℕ) → bit_xor (bit_xor (bit_xor w x) y) z ≡ bit_xor (bit_xor (bit_xor z y) x) w
+turned w x y z =
+    xor_comm (bit_xor (bit_xor w x) y) z
+    ∙ ap (bit_xor z) (xor_comm (bit_xor w x) y)
+    ∙ sym (xor_assoc z y (bit_xor w x))
+    ∙ ap (bit_xor (bit_xor z y)) (xor_comm w x)
+    ∙ sym (xor_assoc (bit_xor z y) x w)
+
+pub sixteen_bytes : (r a b c d e f g h i j k l m n o p : ℕ) → e < 256 → f < 256 → g < 256 → h < 256 → i < 256 → j < 256 → k < 256 → l < 256 → m < 256 → n < 256 → o < 256 → p < 256
+    → four (four (four (four r a b c d) e f g h) i j k l) m n o p
+    ≡ bit_xor (bit_xor (bit_xor (remainder_after 0 (four 0 m n o p)) (remainder_after 32 (four 0 i j k l))) (remainder_after 64 (four 0 e f g h))) (remainder_after 96 (four r a b c d))
 unfolding remainder_after
-four_and_zeros r a b c d small p q s t =
-    let u : ℕ = bit_and (bit_xor r a) 0xff in
-    let v : ℕ = bit_and (bit_xor (r / 2 ^ 8) b) 0xff in
-    let w : ℕ = bit_and (bit_xor (r / 2 ^ 16) c) 0xff in
-    let x : ℕ = bit_and (bit_xor (r / 2 ^ 24) d) 0xff in
-    ap (after_bits 32) (four_bytes r a b c d small p q s t)
-    ∙ linear 32 (after_bits 32 u) (bit_xor (after_bits 24 v) (bit_xor (after_bits 16 w) (after_bits 8 x)))
-    ∙ both _ _ _ _ (then_more 32 32 u)
-    (linear 32 (after_bits 24 v) (bit_xor (after_bits 16 w) (after_bits 8 x))
-    ∙ both _ _ _ _ (then_more 24 32 v) (linear 32 (after_bits 16 w) (after_bits 8 x) ∙ both _ _ _ _ (then_more 16 32 w) (then_more 8 32 x)))
+sixteen_bytes r a b c d e f g h i j k l m n o p e' f' g' h' i' j' k' l' m' n' o' p' =
+    let x : ℕ = four r a b c d in
+    let y : ℕ = four 0 e f g h in
+    let z : ℕ = four 0 i j k l in
+    let eight : four x e f g h ≡ bit_xor (after_bits 32 x) y = four_aside x e f g h e' f' g' h' in
+    let twelve : four (four x e f g h) i j k l ≡ bit_xor (bit_xor (after_bits 64 x) (after_bits 32 y)) z =
+    ap (λ s. four s i j k l) eight
+    ∙ four_aside (bit_xor (after_bits 32 x) y) i j k l i' j' k' l'
+    ∙ ap (λ s. bit_xor s z) (linear 32 (after_bits 32 x) y ∙ ap (λ s. bit_xor s (after_bits 32 y)) (then_more 32 32 x)) in
+    ap (λ s. four s m n o p) twelve
+    ∙ four_aside (bit_xor (bit_xor (after_bits 64 x) (after_bits 32 y)) z) m n o p m' n' o' p'
+    ∙ ap (λ s. bit_xor s (four 0 m n o p))
+    (linear 32 (bit_xor (after_bits 64 x) (after_bits 32 y)) z
+    ∙ ap (λ s. bit_xor s (after_bits 32 z))
+    (linear 32 (after_bits 64 x) (after_bits 32 y) ∙ both _ _ _ _ (then_more 64 32 x) (then_more 32 32 y)))
+    ∙ turned (after_bits 96 x) (after_bits 64 y) (after_bits 32 z) (four 0 m n o p)

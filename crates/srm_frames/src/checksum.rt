@@ -1,27 +1,43 @@
 //! The CRC-32 of zip, PNG and Ethernet.
 
-ghost use Rattle.std.specs.Prelude.{◌≡◌, ◌<◌, fold, bit_and};
+ghost use Rattle.std.specs.Prelude.{◌≡◌, ℕ, ◌+◌, ◌*◌, ◌<◌, ◌≤◌, fold, bit_and};
 ghost use Rattle.srm_frames.specs.Checksums.{crc_32, after_byte, remainder_of, remainder_after};
 
-use crate::remainders::{
-    AFTER_8, AFTER_16, AFTER_24, AFTER_32, AFTER_40, AFTER_48, AFTER_56, AFTER_64,
-};
+use crate::remainders::REMAINDERS;
 
 /// Returns the CRC-32 of bytes, as zip, PNG and Ethernet have it. Takes no memory.
 #[tactic(auto, unfolding(crate::specs::Checksums::crc_32))]
 pub fn crc_32(bytes: &[u8]) -> u32
     ensures { result ≡ crc_32 bytes.now }
 {
-    let (eights, rest) = bytes.as_chunks::<8>();
-    after_bytes(after_eights(0xffff_ffff, eights), rest) ^ 0xffff_ffff
+    let (sixteens, rest) = bytes.as_chunks::<16>();
+    after_few(after_sixteens(0xffff_ffff, sixteens), rest) ^ 0xffff_ffff
 }
 
-fn after_eights(before: u32, eights: &[[u8; 8]]) -> u32
-    ensures { result ≡ fold (fold after_byte) before eights.now }
+fn after_sixteens(before: u32, sixteens: &[[u8; 16]]) -> u32
+    ensures { result ≡ fold (fold after_byte) before sixteens.now }
 {
     let mut register = before;
-    for eight in eights {
-        register = after_eight(register, eight);
+    for sixteen in sixteens {
+        register = after_sixteen(register, sixteen);
+    }
+    register
+}
+
+// Four bytes at once, as far as there are so many.
+fn after_few(before: u32, bytes: &[u8]) -> u32
+    ensures { result ≡ fold after_byte before bytes.now }
+{
+    let (fours, rest) = bytes.as_chunks::<4>();
+    after_bytes(after_fours(before, fours), rest)
+}
+
+fn after_fours(before: u32, fours: &[[u8; 4]]) -> u32
+    ensures { result ≡ fold (fold after_byte) before fours.now }
+{
+    let mut register = before;
+    for four in fours {
+        register = after_four(register, four);
     }
     register
 }
@@ -36,34 +52,34 @@ fn after_bytes(before: u32, bytes: &[u8]) -> u32
     register
 }
 
-// Eight bytes at once: what each leaves doesn't depend on the others, so a processor looks all eight up side by side.
-fn after_eight(register: u32, eight: &[u8; 8]) -> u32
-    ensures { result ≡ fold after_byte register eight.now }
+// What each byte leaves doesn't depend on the others, so a processor looks all sixteen up side by side. Those that the register isn't needed for come first.
+fn after_sixteen(register: u32, sixteen: &[u8; 16]) -> u32
+    ensures { result ≡ fold after_byte register sixteen.now }
 {
-    let [a, b, c, d, e, f, g, h] = *eight;
-    after_four_and_zeros(register, &[a, b, c, d]) ^ after_four(0, &[e, f, g, h])
-}
-
-// Four bytes, and four of zeros behind them.
-fn after_four_and_zeros(register: u32, four: &[u8; 4]) -> u32
-    ensures { result ≡ remainder_after 32 (fold after_byte register four.now) }
-{
-    let [first, second, third, last] = *four;
-    let first = remainder_after_64((register ^ u32::from(first)) & 0xff);
-    let second = remainder_after_56((register >> 8 ^ u32::from(second)) & 0xff);
-    let third = remainder_after_48((register >> 16 ^ u32::from(third)) & 0xff);
-    let last = remainder_after_40((register >> 24 ^ u32::from(last)) & 0xff);
-    first ^ (second ^ (third ^ last))
+    let [a, b, c, d, e, f, g, h, i, j, k, l, m, n, o, p] = *sixteen;
+    let last = after_four_and_zeros(0, 0, &[m, n, o, p]);
+    let third = after_four_and_zeros(4, 0, &[i, j, k, l]);
+    let second = after_four_and_zeros(8, 0, &[e, f, g, h]);
+    let first = after_four_and_zeros(12, register, &[a, b, c, d]);
+    ((last ^ third) ^ second) ^ first
 }
 
 fn after_four(register: u32, four: &[u8; 4]) -> u32
     ensures { result ≡ fold after_byte register four.now }
 {
+    after_four_and_zeros(0, register, four)
+}
+
+// Four bytes, and so many bytes of zeros behind them.
+fn after_four_and_zeros(zeros: usize, register: u32, four: &[u8; 4]) -> u32
+    requires { zeros ≤ 12 }
+    ensures { result ≡ remainder_after (8 * zeros) (fold after_byte register four.now) }
+{
     let [first, second, third, last] = *four;
-    let first = remainder_after_32((register ^ u32::from(first)) & 0xff);
-    let second = remainder_after_24((register >> 8 ^ u32::from(second)) & 0xff);
-    let third = remainder_after_16((register >> 16 ^ u32::from(third)) & 0xff);
-    let last = remainder_of((register >> 24 ^ u32::from(last)) & 0xff);
+    let first = remainder(zeros + 3, (register ^ u32::from(first)) & 0xff);
+    let second = remainder(zeros + 2, (register >> 8 ^ u32::from(second)) & 0xff);
+    let third = remainder(zeros + 1, (register >> 16 ^ u32::from(third)) & 0xff);
+    let last = remainder(zeros, (register >> 24 ^ u32::from(last)) & 0xff);
     first ^ (second ^ (third ^ last))
 }
 
@@ -71,61 +87,14 @@ fn after_four(register: u32, four: &[u8; 4]) -> u32
 fn after_byte(register: u32, byte: u8) -> u32
     ensures { result ≡ after_byte register byte }
 {
-    remainder_of((register ^ u32::from(byte)) & 0xff) ^ (register >> 8)
+    remainder(0, (register ^ u32::from(byte)) & 0xff) ^ (register >> 8)
 }
 
-fn remainder_of(low: u32) -> u32
-    requires { low < 256 }
-    ensures { result ≡ remainder_of low }
+// What a byte leaves with so many bytes of zeros behind it.
+fn remainder(zeros: usize, low: u32) -> u32
+    requires few { zeros < 16 }
+    requires byte { low < 256 }
+    ensures { result ≡ remainder_after (8 * zeros + 8) low }
 {
-    AFTER_8[low as usize]
-}
-
-fn remainder_after_16(low: u32) -> u32
-    requires { low < 256 }
-    ensures { result ≡ remainder_after 16 low }
-{
-    AFTER_16[low as usize]
-}
-
-fn remainder_after_24(low: u32) -> u32
-    requires { low < 256 }
-    ensures { result ≡ remainder_after 24 low }
-{
-    AFTER_24[low as usize]
-}
-
-fn remainder_after_32(low: u32) -> u32
-    requires { low < 256 }
-    ensures { result ≡ remainder_after 32 low }
-{
-    AFTER_32[low as usize]
-}
-
-fn remainder_after_40(low: u32) -> u32
-    requires { low < 256 }
-    ensures { result ≡ remainder_after 40 low }
-{
-    AFTER_40[low as usize]
-}
-
-fn remainder_after_48(low: u32) -> u32
-    requires { low < 256 }
-    ensures { result ≡ remainder_after 48 low }
-{
-    AFTER_48[low as usize]
-}
-
-fn remainder_after_56(low: u32) -> u32
-    requires { low < 256 }
-    ensures { result ≡ remainder_after 56 low }
-{
-    AFTER_56[low as usize]
-}
-
-fn remainder_after_64(low: u32) -> u32
-    requires { low < 256 }
-    ensures { result ≡ remainder_after 64 low }
-{
-    AFTER_64[low as usize]
+    REMAINDERS[zeros][low as usize]
 }

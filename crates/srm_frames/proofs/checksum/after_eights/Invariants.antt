@@ -1,8 +1,0 @@
-use Rattle.std.proofs.Common.{◌≡◌, take}
-use Rattle.std.specs.List.{fold}
-use Rattle.srm_frames.specs.Checksums.{after_byte}
-use Rattle.srm_frames.proofs.checksum.after_eights.Given as goal
-
--- the register after the bytes so far
-abbrev pub invariant-loop-eight : goal.invariant-loop-eight
-invariant-loop-eight l = l.register ≡ fold (fold after_byte) l.before (take l.eight-index l.eights)
