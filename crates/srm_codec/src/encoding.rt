@@ -29,33 +29,15 @@ pub fn encode(alloc: Global, session: u32, datagram: &Datagram) -> Result<Vec<u8
     ensures read { IfOk result (λ bytes. judge session bytes.items ≡ Ok datagram.now) }
 {
     let mut out = Vec::with_capacity(alloc, length(datagram))?;
-    put_datagram(&mut out, session, datagram)?;
+    encode_into(&mut out, session, datagram)?;
     Ok(out)
 }
 
-/// Returns how many bytes the spelling of the datagram has, in any session, 17 or more. The caller shows that it has one ([`encodable`](crate::encodable)). Takes no
-/// memory.
-pub fn length(datagram: &Datagram) -> usize
-    requires { IsSpellable datagram.now }
-    ensures value { result ≡ length_of datagram.now }
-    ensures counts { (session : ℕ) → result ≡ length (spelling session datagram.now) }
-{
-    match datagram {
-        Datagram::Data(drawop) | Datagram::Repair { drawop, .. } => {
-            HEAD_BYTES + DRAWOP_BYTES + drawop.body.len()
-        }
-        Datagram::Request { mask: 0, .. } => HEAD_BYTES + NAME_BYTES,
-        Datagram::Request { .. } => HEAD_BYTES + NAME_BYTES + MASK_BYTES,
-        Datagram::Session { rows, echoes, .. } => {
-            let rows = NAME_BYTES * rows.as_slice().len();
-            let echoes = ECHO_BYTES * echoes.as_slice().len();
-            HEAD_BYTES + SESSION_MESSAGE_BYTES + rows + echoes
-        }
-    }
-}
-
+/// Appends the one spelling of the datagram in this session to bytes: [`length`] bytes. The caller shows that it has one ([`encodable`](crate::encodable)).
+///
+/// Fails only if out of memory. What `out` has then is unspecified. Takes memory only where `out` has no room for them.
 #[tactic(auto, unfolding(crate::specs::Spelling::spelling))]
-fn put_datagram(out: &mut Vec<u8>, session: u32, datagram: &Datagram) -> Result<(), AllocError>
+pub fn encode_into(out: &mut Vec<u8>, session: u32, datagram: &Datagram) -> Result<(), AllocError>
     requires { IsSpellable datagram.now }
     ensures { OnOk result (out.new.items ≡ out.old.items ++ spelling session datagram.now) }
 {
@@ -85,6 +67,27 @@ fn put_datagram(out: &mut Vec<u8>, session: u32, datagram: &Datagram) -> Result<
             out.extend_from_slice(&page_field(*shown))?;
             put_rows(out, rows.as_slice())?;
             put_echoes(out, echoes.as_slice())
+        }
+    }
+}
+
+/// Returns how many bytes the spelling of the datagram has, in any session, 17 or more. The caller shows that it has one ([`encodable`](crate::encodable)). Takes no
+/// memory.
+pub fn length(datagram: &Datagram) -> usize
+    requires { IsSpellable datagram.now }
+    ensures value { result ≡ length_of datagram.now }
+    ensures counts { (session : ℕ) → result ≡ length (spelling session datagram.now) }
+{
+    match datagram {
+        Datagram::Data(drawop) | Datagram::Repair { drawop, .. } => {
+            HEAD_BYTES + DRAWOP_BYTES + drawop.body.len()
+        }
+        Datagram::Request { mask: 0, .. } => HEAD_BYTES + NAME_BYTES,
+        Datagram::Request { .. } => HEAD_BYTES + NAME_BYTES + MASK_BYTES,
+        Datagram::Session { rows, echoes, .. } => {
+            let rows = NAME_BYTES * rows.as_slice().len();
+            let echoes = ECHO_BYTES * echoes.as_slice().len();
+            HEAD_BYTES + SESSION_MESSAGE_BYTES + rows + echoes
         }
     }
 }

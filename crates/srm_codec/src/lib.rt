@@ -10,7 +10,7 @@
 //! ```
 //!
 //! **Errors.** [`decode`] returns the first [`DecodeFault`] that it finds. It goes through the fields in order: are all bytes of the
-//! field there, and is its value in range? Last it looks for bytes left over. [`encode`] fails only if out of memory. Its precondition
+//! field there, and is its value in range? Last it looks for bytes left over. [`encode`], and [`encode_into`], which appends to bytes, fail only if out of memory. Their precondition
 //! is that the datagram has a spelling, as [`encodable`] says.
 #![tactic(auto)]
 
@@ -30,7 +30,7 @@ mod spellable;
 
 pub use datagram::Datagram;
 pub use decoding::decode;
-pub use encoding::{encode, length};
+pub use encoding::{encode, encode_into, length};
 pub use fault::DecodeFault;
 pub use format::{
     DRAWOP_BYTES, ECHO_BYTES, HEAD_BYTES, LONGEST_LIST, MASK_BITS, NAME_BYTES,
