@@ -3,6 +3,7 @@ mod Linear
 mod Chunks
 mod ChecksumBounds
 pub mod Elements
+mod Framing
 mod FrameLaws
 mod MessageLaws
 mod LineLaws

@@ -12,8 +12,11 @@ pub const BEGINNING_BYTES: usize = 55;
 /// How many bytes of a frame stand before its payload: kind, moment, and the payload's length.
 pub const FRAME_HEAD_BYTES: usize = 13;
 
-/// How many bytes of what a page worker took stand before the body of a drawop: page slot, kind, name and stamp.
-pub const TAKE_HEAD_BYTES: usize = 18;
+/// How many bytes a page has.
+pub const PAGE_BYTES: usize = 3;
+
+/// How many bytes of a drawop that a page worker took stand before its body: kind, name and stamp.
+pub const DRAW_HEAD_BYTES: usize = 17;
 
 /// How many bytes a payload has, at most.
 pub const LONGEST_PAYLOAD: usize = 0xffff_ffff;

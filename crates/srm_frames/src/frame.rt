@@ -1,7 +1,9 @@
 //! Frames: a record has one for each line.
 
-ghost use Rattle.std.specs.Prelude.{◌≡◌, ◌<◌, ◌≤◌, ◌^◌, ◌++◌, length, take, drop, OnOk};
-ghost use Rattle.srm_frames.specs.Frames.{sealed, frame_fields, frame};
+ghost use Rattle.std.specs.Prelude.{◌≡◌, ◌<◌, ◌≤◌, ◌^◌, ◌∷◌, ◌++◌, length, take, drop, OnOk};
+ghost use Rattle.std.specs.Int.{w32, w64, to_be_bytes};
+ghost use Rattle.srm_frames.specs.declared.format.TheConstants.{LONGEST_PAYLOAD as longest_payload};
+ghost use Rattle.srm_frames.specs.Frames.{sealed, frame};
 
 use crate::checksum::crc_32;
 use crate::format::LONGEST_PAYLOAD;
@@ -27,22 +29,23 @@ pub fn put_frame(out: &mut Vec<u8>, kind: u8, moment: u64, payload: &[u8]) -> Re
     ensures fits { OnOk result (length payload.now < 2 ^ 32) }
 {
     let start = out.len();
-    put_fields(out, kind, moment, payload)?;
-    seal(out, start)
+    put_head(out, kind, moment, payload.len())?;
+    out.extend_from_slice(payload)?;
+    seal(out, start)?;
+    Ok(())
 }
 
-fn put_fields(out: &mut Vec<u8>, kind: u8, moment: u64, payload: &[u8]) -> Result<(), AllocError>
-    ensures fields { OnOk result (out.new.items ≡ out.old.items ++ frame_fields kind moment payload.now) }
-    ensures fits { OnOk result (length payload.now < 2 ^ 32) }
+/// Appends what stands before a payload of so many bytes. Fails if out of memory, or from 2^32 bytes on.
+pub fn put_head(out: &mut Vec<u8>, kind: u8, moment: u64, size: usize) -> Result<(), AllocError>
+    ensures head { OnOk result (out.new.items ≡ out.old.items ++ (kind ∷ (to_be_bytes w64 moment ++ to_be_bytes w32 size))) }
+    ensures fits { OnOk result (size ≤ longest_payload) }
 {
-    if payload.len() > LONGEST_PAYLOAD {
+    if size > LONGEST_PAYLOAD {
         return Err(AllocError);
     }
-    let size = payload.len() as u32;
     out.push(kind)?;
     out.extend_from_slice(&moment.to_be_bytes())?;
-    out.extend_from_slice(&size.to_be_bytes())?;
-    out.extend_from_slice(payload)?;
+    out.extend_from_slice(&(size as u32).to_be_bytes())?;
     Ok(())
 }
 

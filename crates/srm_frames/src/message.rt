@@ -1,13 +1,14 @@
 //! What a page worker took, as bytes.
 
-ghost use Rattle.std.specs.Prelude.{◌≡◌, ◌∷◌, ◌++◌, IfOk, OnOk};
+ghost use Rattle.std.specs.Prelude.{◌≡◌, ◌≤◌, ◌∷◌, ◌++◌, length, IfOk, OnOk};
 ghost use Rattle.std.specs.Int.{w32, to_be_bytes};
 ghost use Rattle.srm_codec.specs.Spelling.{page_bytes, name_bytes};
 ghost use Rattle.srm_names.specs.declared.page_msg.PageMsg.TheVariants as messages;
+ghost use Rattle.srm_frames.specs.declared.format.TheConstants.{LONGEST_PAYLOAD as longest_payload};
 ghost use Rattle.srm_frames.specs.Messages.{draw_text, message_text};
 ghost use Rattle.srm_frames.specs.Readings.{IsSeen, bare, open_in, draw_in, left_in, message_behind, message_in};
 
-use crate::format::{CLOSE, DRAW, LEFT, OPEN};
+use crate::format::{CLOSE, DRAW, DRAW_HEAD_BYTES, LEFT, OPEN, PAGE_BYTES};
 use crate::reader::Reader;
 use bytes::Bytes;
 use srm_names::{Drawop, Name, Page, PageMsg};
@@ -30,6 +31,19 @@ pub fn put_message(out: &mut Vec<u8>, message: &PageMsg) -> Result<(), AllocErro
         PageMsg::Close => out.push(CLOSE)?,
     }
     Ok(())
+}
+
+/// Returns how many bytes a message has, or, if these are more than a payload may have, some number past that.
+#[tactic(auto, unfolding(srm_codec::specs::Spelling::page_bytes, srm_codec::specs::Spelling::name_bytes))]
+pub fn message_bytes(message: &PageMsg) -> usize
+    ensures { result ≤ longest_payload → result ≡ length (message_text message.now) }
+{
+    match message {
+        PageMsg::Open(_) => 1 + PAGE_BYTES,
+        PageMsg::Draw(drawop) => DRAW_HEAD_BYTES.saturating_add(drawop.body.len()),
+        PageMsg::Left(_) => 2,
+        PageMsg::Close => 1,
+    }
 }
 
 fn put_draw(out: &mut Vec<u8>, drawop: &Drawop) -> Result<(), AllocError>

@@ -91,21 +91,14 @@ fn is_stored<F: OpenFile>(file: &Option<F>) -> bool {
 }
 
 // What each worker took.
-fn lists_of(alloc: Global, worked: &[Worked]) -> Result<Vec<Vec<PageMsg>>, AllocError>
+fn lists_of<'a>(alloc: Global, worked: &'a [Worked]) -> Result<Vec<&'a [PageMsg]>, AllocError>
     ensures { IfOk result (λ lists. vec_len lists ≡ length worked.now) }
 {
     let mut lists = Vec::new(alloc);
     for worker in worked {
-        let list = copy_of(alloc, worker.list.as_slice())?;
-        lists.push(list).map_err(AllocError::from)?;
+        lists
+            .push(worker.list.as_slice())
+            .map_err(AllocError::from)?;
     }
     Ok(lists)
-}
-
-fn copy_of(alloc: Global, messages: &[PageMsg]) -> Result<Vec<PageMsg>, AllocError> {
-    let mut copy = Vec::new(alloc);
-    for message in messages {
-        copy.push(message.copy()?).map_err(AllocError::from)?;
-    }
-    Ok(copy)
 }

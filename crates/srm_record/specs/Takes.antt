@@ -2,6 +2,7 @@
 use Rattle.std.specs.Prelude.{ℕ, ◌==◌, List, map, if◌then◌else◌, Option, Some, None, Vec}
 use Rattle.std.specs.List.{filter_map, flat_map, enumerate_from}
 use Rattle.std.specs.Global.{Global}
+use denote.Ref.{Bor}
 use Rattle.srm_names.specs.declared.limits.TheConstants.{PAGES}
 use Rattle.srm_names.specs.declared.page_msg.PageMsg.{PageMsg}
 use Rattle.srm_names.specs.Histories.{count_up}
@@ -12,6 +13,10 @@ use Rattle.srm_frames.specs.declared.line.Call.TheVariants.{Took, Ended}
 -- what was taken in each slot
 abbrev pub taken_in : List (Vec PageMsg Global) → List (List PageMsg)
 taken_in lists = map (λ list. list.items) lists
+
+-- the same, of lists that are lent
+abbrev pub lent : List (Bor (List PageMsg)) → List (List PageMsg)
+lent lists = map (λ (list : Bor (List PageMsg)). list.now) lists
 
 abbrev pub take_at : ℕ → ℕ → PageMsg → Line
 take_at last slot message = record { moment = last; call = Took slot message }

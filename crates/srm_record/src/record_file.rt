@@ -8,7 +8,7 @@ ghost use Rattle.srm_entries.specs.declared.entry.Entry.{Entry as AnEntry};
 ghost use Rattle.srm_record.specs.Calls.{last_after};
 ghost use Rattle.srm_frames.specs.Lines.{line_text, lines_text};
 ghost use Rattle.srm_record.specs.Records.{whole_record};
-ghost use Rattle.srm_record.specs.Takes.{taken_in, take_at, slot_lines, takes_at, end_at};
+ghost use Rattle.srm_record.specs.Takes.{lent, take_at, slot_lines, takes_at, end_at};
 ghost use Rattle.srm_output.specs.Writing.{AppendsFront};
 ghost use Rattle.srm_record.specs.Writing.{HasText, HasRecord, Adds, GoesOn, Writes, WritesIf, Notes, call_text, sends};
 
@@ -167,10 +167,10 @@ impl<F: Write + Drop> RecordFile<F> {
 
     /// Writes what page workers took, slot by slot, and that this is all. Returns whether the file has all, and the file. Holds little more than 64 KiB of it.
     #[tactic(auto, using(crate::proofs::Ending::ended_whole, crate::proofs::Ending::ended_front))]
-    pub fn end(self, taken: &[Vec<PageMsg>]) -> (bool, F)
+    pub fn end(self, taken: &[&[PageMsg]]) -> (bool, F)
         requires { length taken.now ≤ PAGES }
-        ensures whole { result.0 ≡ true → (es : List AnEntry) → HasRecord self es → Appends self.first (F.contents result.1) (whole_record self.beginning es (taken_in taken.now)) }
-        ensures front { (es : List AnEntry) → HasRecord self es → AppendsFront self.first (F.contents result.1) (whole_record self.beginning es (taken_in taken.now)) }
+        ensures whole { result.0 ≡ true → (es : List AnEntry) → HasRecord self es → Appends self.first (F.contents result.1) (whole_record self.beginning es (lent taken.now)) }
+        ensures front { (es : List AnEntry) → HasRecord self es → AppendsFront self.first (F.contents result.1) (whole_record self.beginning es (lent taken.now)) }
     {
         let mut file = self;
         file.put_takes(taken);
@@ -179,12 +179,12 @@ impl<F: Write + Drop> RecordFile<F> {
         (!file.failed, file.file)
     }
 
-    fn put_takes(&mut self, taken: &[Vec<PageMsg>])
+    fn put_takes(&mut self, taken: &[&[PageMsg]])
         requires { length taken.now ≤ PAGES }
-        ensures { GoesOn self.old self.new (lines_text (takes_at self.old.last (taken_in taken.now))) }
+        ensures { GoesOn self.old self.new (lines_text (takes_at self.old.last (lent taken.now))) }
     {
         for (slot, list) in taken.iter().enumerate() {
-            self.put_slot(slot as u8, list.as_slice());
+            self.put_slot(slot as u8, list);
         }
     }
 
@@ -204,7 +204,7 @@ impl<F: Write + Drop> RecordFile<F> {
         if self.failed {
             return;
         }
-        match put_took(self.alloc, &mut self.waiting, self.last, slot, message) {
+        match put_took(&mut self.waiting, self.last, slot, message) {
             Ok(()) => {}
             Err(_) => self.failed = true,
         }
@@ -226,7 +226,7 @@ impl<F: Write + Drop> RecordFile<F> {
         if self.failed {
             return;
         }
-        match put_end(self.alloc, &mut self.waiting, self.last) {
+        match put_end(&mut self.waiting, self.last) {
             Ok(()) => {}
             Err(_) => self.failed = true,
         }

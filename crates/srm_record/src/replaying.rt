@@ -91,7 +91,7 @@ fn text_of(alloc: Global, lines: &[Line]) -> Result<Vec<u8>, AllocError>
     ensures { IfOk result (λ bytes. bytes.items ≡ lines_text lines.now) }
 {
     let mut bytes = Vec::new(alloc);
-    put_lines(alloc, &mut bytes, lines)?;
+    put_lines(&mut bytes, lines)?;
     Ok(bytes)
 }
 

@@ -66,8 +66,8 @@ fn call_of(alloc: Global, session: u32, input: &Input) -> Result<Option<Call>, A
     }
 }
 
-/// Returns the bytes of a datagram. Fails if out of memory, or if it has no spelling.
-pub fn spelled(alloc: Global, session: u32, datagram: &Datagram) -> Result<Vec<u8>, AllocError>
+// The bytes of a datagram. Fails if out of memory, or if it has no spelling.
+fn spelled(alloc: Global, session: u32, datagram: &Datagram) -> Result<Vec<u8>, AllocError>
     ensures { IfOk result (λ bytes. bytes.items ≡ spelling session datagram.now) }
 {
     if !encodable(datagram) {

@@ -4,7 +4,7 @@ ghost use Rattle.std.specs.Prelude.{◌≡◌, ◌≤◌, [], None, true, length
 ghost use Rattle.std.specs.Io.KnownBytes.{Appends};
 ghost use Rattle.srm_names.specs.declared.limits.TheConstants.{PAGES};
 ghost use Rattle.srm_record.specs.Records.{whole_record};
-ghost use Rattle.srm_record.specs.Takes.{taken_in};
+ghost use Rattle.srm_record.specs.Takes.{lent};
 ghost use Rattle.srm_output.specs.Writing.{AppendsFront};
 ghost use Rattle.srm_record.specs.Writing.{IsWritten, NotesIn};
 
@@ -73,11 +73,11 @@ impl<F: Write + Drop, P: Past<Entry> + Drop> Written<F, P> {
     }
 
     /// Writes what the page workers took, slot by slot, and that this is all. Returns the file and the history.
-    pub fn end(self, taken: &[Vec<PageMsg>]) -> Ended<F, P>
+    pub fn end(self, taken: &[&[PageMsg]]) -> Ended<F, P>
         requires { length taken.now ≤ PAGES }
         ensures past { result.past ≡ self.past }
-        ensures whole { result.whole ≡ true → MatchOption self.file (result.file ≡ None) (λ v. IsSomeAnd result.file (λ f. Appends v.first (F.contents f) (whole_record v.beginning self.entries (taken_in taken.now)))) }
-        ensures front { MatchOption self.file (result.file ≡ None) (λ v. IsSomeAnd result.file (λ f. AppendsFront v.first (F.contents f) (whole_record v.beginning self.entries (taken_in taken.now)))) }
+        ensures whole { result.whole ≡ true → MatchOption self.file (result.file ≡ None) (λ v. IsSomeAnd result.file (λ f. Appends v.first (F.contents f) (whole_record v.beginning self.entries (lent taken.now)))) }
+        ensures front { MatchOption self.file (result.file ≡ None) (λ v. IsSomeAnd result.file (λ f. AppendsFront v.first (F.contents f) (whole_record v.beginning self.entries (lent taken.now)))) }
     {
         let Written { past, file } = self;
         match file {

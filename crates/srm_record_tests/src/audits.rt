@@ -123,8 +123,8 @@ fn asking(rt: &impl Abort, alloc: Global) -> (Vec<u8>, Vec<u8>) {
     let _ = other.hear(last.bytes.as_slice(), 30).expect(rt, "heard");
     let ticked = other.tick(312_448).expect(rt, "ticked");
     assert_eq!(rt; ticked.asks.as_slice().len(), 1);
-    let Ended { file: first, .. } = finish(rt, alloc, one, Vec::new(alloc));
-    let Ended { file: second, .. } = finish(rt, alloc, other, Vec::new(alloc));
+    let Ended { file: first, .. } = finish(one, &[]);
+    let Ended { file: second, .. } = finish(other, &[]);
     (first.expect(rt, "a file"), second.expect(rt, "a file"))
 }
 
@@ -267,7 +267,7 @@ fn late_give(rt: &impl Abort, alloc: Global) -> Vec<u8> {
     let _ = other.give(0).expect(rt, "given");
     let _ = other.hear(b"noise", 30).expect(rt, "heard");
     let _ = other.give(0).expect(rt, "given");
-    let Ended { file, .. } = finish(rt, alloc, other, Vec::new(alloc));
+    let Ended { file, .. } = finish(other, &[]);
     let file = file.expect(rt, "a file");
     forged(rt, alloc, file.as_slice(), true)
 }
@@ -276,7 +276,7 @@ fn late_give(rt: &impl Abort, alloc: Global) -> Vec<u8> {
 fn first_give(rt: &impl Abort, alloc: Global) -> Vec<u8> {
     let mut other = recording(rt, alloc, beginning(rt, 1, 2), Vec::new(alloc));
     let _ = other.give(0).expect(rt, "given");
-    let Ended { file, .. } = finish(rt, alloc, other, Vec::new(alloc));
+    let Ended { file, .. } = finish(other, &[]);
     let file = file.expect(rt, "a file");
     forged(rt, alloc, file.as_slice(), true)
 }

@@ -180,7 +180,7 @@ fn crowd(rt: &impl Abort, alloc: Global, count: u8, calls: u64, fates: [Fate; 10
     let mut files = Vec::new(alloc);
     for one in VecDeque::from(members) {
         let One { member, taken } = one;
-        let Ended { whole, file, .. } = finish(rt, alloc, member, taken);
+        let Ended { whole, file, .. } = finish(member, taken.as_slice());
         assert!(rt; whole);
         files.push(file.expect(rt, "a file")).expect(rt, "memory");
     }

@@ -41,8 +41,8 @@ pub fn session_of(rt: &impl Abort, alloc: Global, members: u8) -> (Vec<u8>, Vec<
             taken.push(message).expect(rt, "memory");
         }
     }
-    let Ended { file: first, .. } = finish(rt, alloc, one, taken);
-    let Ended { file: second, .. } = finish(rt, alloc, other, Vec::new(alloc));
+    let Ended { file: first, .. } = finish(one, taken.as_slice());
+    let Ended { file: second, .. } = finish(other, &[]);
     (first.expect(rt, "a file"), second.expect(rt, "a file"))
 }
 

@@ -51,7 +51,7 @@ fn other_frames_have_these_bytes(rt: HostRuntime) {
     let alloc = rt.alloc();
     for (line, wanted) in calls(&rt, alloc).iter().zip(FRAMES) {
         let mut bytes = Vec::new(alloc);
-        put_line(alloc, &mut bytes, line).expect(&rt, "memory");
+        put_line(&mut bytes, line).expect(&rt, "memory");
         assert_eq!(rt; bytes.as_slice(), wanted);
         let mut file = beginning_bytes(alloc, &beginning(&rt, 0, 2)).expect(&rt, "memory");
         file.extend_from_slice(wanted).expect(&rt, "memory");

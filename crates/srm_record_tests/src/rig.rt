@@ -86,21 +86,13 @@ pub fn work<F: Write + Drop>(
     }
     one.show(page(rt, 1, 3), 40).expect(rt, "shown");
     one.leave(50).expect(rt, "left");
-    finish(rt, alloc, one, taken)
+    finish(one, taken.as_slice())
 }
 
 /// The end of a member whose first worker took this.
-pub fn finish<F: Write + Drop>(
-    rt: &impl Abort,
-    alloc: Global,
-    member: Recording<F>,
-    taken: Vec<PageMsg>,
-) -> Ended<F, Vec<Entry>> {
+pub fn finish<F: Write + Drop>(member: Recording<F>, taken: &[PageMsg]) -> Ended<F, Vec<Entry>> {
     let (_, past) = member.finish().into_parts();
-    let mut lists = Vec::new(alloc);
-    lists.push(taken).expect(rt, "memory");
-    assert!(rt; lists.len() <= 8);
-    past.end(lists.as_slice())
+    past.end(&[taken])
 }
 
 /// What came of bytes that may be a record.

@@ -35,8 +35,8 @@ fn session(rt: &impl Abort, alloc: Global, body: &[u8], other: Beginning) -> Vec
             taken.push(message).expect(rt, "memory");
         }
     }
-    let Ended { file: first, .. } = finish(rt, alloc, one, taken);
-    let Ended { file: second, .. } = finish(rt, alloc, other, Vec::new(alloc));
+    let Ended { file: first, .. } = finish(one, taken.as_slice());
+    let Ended { file: second, .. } = finish(other, &[]);
     let mut records = Vec::new(alloc);
     for file in [second.expect(rt, "a file"), first.expect(rt, "a file")] {
         let read = read_record(alloc, file.as_slice()).expect(rt, "a record");

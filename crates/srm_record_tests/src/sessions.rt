@@ -83,7 +83,7 @@ fn what_is_replayed_is_what_was_done(rt: HostRuntime) {
         step(&rt, alloc, members.as_mut_slice(), &mut dice, now);
     }
     for one in VecDeque::from(members) {
-        let Ended { whole, file, past } = finish(&rt, alloc, one, Vec::new(alloc));
+        let Ended { whole, file, past } = finish(one, &[]);
         assert!(rt; whole);
         let bytes = file.expect(&rt, "a file");
         let record = read_record(alloc, bytes.as_slice()).expect(&rt, "a record");

@@ -52,7 +52,7 @@ fn sizes_of(
     one: Recording<Sizes>,
     taken: Vec<PageMsg>,
 ) -> Vec<usize> {
-    let Ended { whole, file, .. } = finish(rt, alloc, one, taken);
+    let Ended { whole, file, .. } = finish(one, taken.as_slice());
     assert!(rt; whole);
     file.expect(rt, "a file").sizes
 }

@@ -1,18 +1,17 @@
 use Rattle.std.proofs.Common.{ℕ, List, map, subst}
-use Rattle.std.specs.Prelude.{Vec}
-use Rattle.std.specs.Global.{Global}
+use denote.Ref.{Bor}
 use Rattle.std.specs.List.{enumerate_from, flat_map}
 use Rattle.std.proofs.lemmas.List.{take_all}
 use Rattle.srm_names.specs.declared.page_msg.PageMsg.{PageMsg}
 use Rattle.srm_frames.specs.Lines.{lines_text}
-use Rattle.srm_record.specs.Takes.{slot_lines, listed_lines}
+use Rattle.srm_record.specs.Takes.{listed_lines}
 use Rattle.srm_record.specs.Writing.{GoesOn}
 use Rattle.srm_record.proofs.Elements.{length-numbered, numbered}
 use Rattle.srm_record.proofs.Ending.{one_slot_more}
 use Rattle.srm_record.proofs.record_file.RecordFile.put_takes.Goals as goal
 
-abbrev list_of : Vec PageMsg Global → List PageMsg
-list_of list = list.items
+abbrev list_of : Bor (List PageMsg) → List PageMsg
+list_of list = list.now
 
 pub loop-slot-preserved : goal.loop-slot-preserved
 loop-slot-preserved g c =
@@ -22,7 +21,7 @@ loop-slot-preserved g c =
     (rw (length-numbered list_of lists) c.loop-slot-test.true)
     (numbered list_of lists slot c.index-taken-slot.result c.loop-slot-test.true c.index-taken-slot.is)
     c.loop-slot.invariant
-    (subst (λ (taken : List PageMsg). GoesOn c.loop-slot.self c.put_slot.new.self (lines_text (slot_lines c.loop-slot.self.last slot taken))) c.as_slice.ensures.value c.put_slot.ensures)
+    c.put_slot.ensures
 
 pub returns : goal.returns
 returns g c =

@@ -1,9 +1,0 @@
-use Rattle.std.proofs.Common.{append_assoc}
-use Rattle.srm_frames.specs.Frames.{frame_fields}
-use Rattle.srm_frames.proofs.frame.put_fields.Goals as goal
-
-pub returns-clause-fields : goal.returns-clause-fields
-unfolding frame_fields
-returns-clause-fields c =
-    rw (c.in_ok-extend_from_slice-3.ensures.items, c.in_ok-extend_from_slice-2.ensures.items, c.to_be_bytes-2.ensures, c.in_ok-extend_from_slice.ensures.items, c.to_be_bytes.ensures, c.in_ok-push.ensures.items)
-    (simp append_assoc)
