@@ -4,4 +4,10 @@ mod Writing
 mod Found
 mod Given
 mod Refusing
+mod Fitting
+mod Fronts
+mod Cutting
+mod Telling
+mod Written
+mod Filed
 mod WritersExample

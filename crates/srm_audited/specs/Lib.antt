@@ -1,4 +1,5 @@
 pub mod Sessions
 pub mod Verdicts
 pub mod Writers
+pub mod Written
 pub mod GivenExamples

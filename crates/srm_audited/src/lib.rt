@@ -16,6 +16,10 @@
 //!
 //! Two laws say what verdicts tell of the runs whose members wrote the records. Where they aren't honest, there is no such honest run ([`refusals_hold`]). Where all members of an honest
 //! run wrote them, whole or cut behind the last datagram that the member sent, they are ([`honest_runs_are_found`]).
+//!
+//! Two more laws lead from the bytes of files to such records. What a member writes is read as a record of what it did, also where its file ends early, anywhere behind its beginning
+//! ([`what_is_written_is_read`]). The law on refusals needs no condition on what such files lack. The law on honest runs needs one: what a file lacks stands behind the last call that sends
+//! ([`files_tell`]).
 #![tactic(auto)]
 
 mod auditing;
@@ -25,5 +29,5 @@ mod laws;
 mod verdict;
 
 pub use auditing::audit;
-pub use laws::{honest_runs_are_found, refusals_hold};
+pub use laws::{files_tell, honest_runs_are_found, refusals_hold, what_is_written_is_read};
 pub use verdict::{Reason, Verdict};

@@ -1,0 +1,11 @@
+use Rattle.srm_audited.proofs.Filed.{cut_files_law, files_law, kept_law}
+use Rattle.srm_audited.proofs.laws.files_tell.Goals as goal
+
+pub returns-clause-cut : goal.returns-clause-cut
+returns-clause-cut c = cut_files_law
+
+pub returns-clause-all : goal.returns-clause-all
+returns-clause-all c = files_law
+
+pub returns-clause-kept : goal.returns-clause-kept
+returns-clause-kept c = kept_law
