@@ -12,7 +12,7 @@
 //!
 //! A record is how a member began, and then a frame for each line: kind, moment, payload and checksum. `docs/RECORDS.md` has it byte by byte. A record may be cut at any byte behind its beginning: it is read up to its cut.
 //!
-//! **Errors.** [`read_record`] returns a [`RecordFault`] for bytes that are no record. [`put_line`] and [`beginning_bytes`] fail if out of memory, and [`put_line`] for a payload of 2^32 bytes or more.
+//! **Errors.** [`read_record`] returns a [`RecordFault`] for bytes that are no record. [`put_line`] and its kin, and [`beginning_bytes`], fail if out of memory; the former for a payload of 2^32 bytes or more too, and [`put_heard`] for a datagram without a spelling.
 #![tactic(auto)]
 
 mod beginning;

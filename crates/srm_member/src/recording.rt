@@ -67,7 +67,7 @@ fn wall_micros<R: time::Clock>(rt: &R) -> u64 {
 }
 
 /// Ends a member's record with what its page workers took, by page slot, and asks the system to store it. Returns whether the file has the whole record; true if there is
-/// no file. It hasn't if there are more workers than page slots. Fails if out of memory for a copy of the workers' lists; the file has a front of the record then.
+/// no file. It hasn't if there are more workers than page slots. Fails if out of memory for a list of the workers' lists; the file has a front of the record then.
 pub fn end_record<F: Write + OpenFile + Drop, P: Past<Entry> + Drop>(
     alloc: Global,
     journal: Journal<Written<F, P>>,
