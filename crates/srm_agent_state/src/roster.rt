@@ -15,7 +15,7 @@ pub fn member(number: u8) -> Member
 }
 
 /// Tells proofs that a datagram can name this page, as its type promises. It does nothing when it runs, and is public only for proofs of
-/// `srm_agent`.
+/// `srm_agent` and `srm_world`.
 pub fn page_in_range(page: Page)
     ensures { is_page page }
 {

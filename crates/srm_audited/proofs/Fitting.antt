@@ -37,7 +37,7 @@ use Rattle.srm_frames.specs.Messages.{message_text}
 use Rattle.srm_frames.specs.WhatIsRead.{IsLine, IsMessage}
 use Rattle.srm_record.specs.Calls.{call_of, at_moment, line_of, lines_of, moment_of_acting, last_recorded}
 use Rattle.srm_record.specs.Takes.{slot_lines, listed_lines, takes_at}
-use Rattle.srm_audited.specs.Written.{CanBeHanded, IsHandable}
+use Rattle.srm_world.specs.Traces.{CanBeHanded, IsHandable}
 
 -- a call that acts is done
 done_acts : (v : Verdict) (b : Bool) → (is_done v && b) ≡ true → v ≡ Done

@@ -15,17 +15,13 @@ use Rattle.srm_names.specs.Histories.{IsPrefix}
 use Rattle.srm_names.proofs.Lists.{by_place}
 use Rattle.srm_timers.specs.Seeds.{words_of}
 use Rattle.srm_entries.specs.declared.entry.Entry.{Entry}
-use Rattle.srm_entries.specs.declared.entry.Verdict.TheVariants.{Done, Refused}
-use Rattle.srm_entries.specs.declared.fault.AgentFault.TheVariants.{Memory}
 use Rattle.srm_entries.specs.Giving.{given}
 use Rattle.srm_entries.specs.Runs.{IsMemberRun}
 use Rattle.srm_entries.specs.Sample.{config, first_drawop, first_stream}
 use Rattle.srm_entries.proofs.Cutting.{run_part}
-use Rattle.srm_entries.proofs.Given.{gives_law}
-use Rattle.srm_entries.proofs.Rating.{rate_law}
-use Rattle.srm_entries.proofs.Responding.{response_law}
-use Rattle.srm_world.specs.Traces.{Trace, Journal, of_member, IsUntaken}
-use Rattle.srm_world.specs.Claims.{IsLawfulJournal, NoneForMemory}
+use Rattle.srm_world.specs.Traces.{Trace, Journal, of_member, IsHandable}
+use Rattle.srm_world.specs.Claims.{IsLawfulJournal}
+use Rattle.srm_world.proofs.Lawful.{lawful_journal}
 use Rattle.srm_world.proofs.TakesExample.{trace, run, honest}
 use Rattle.srm_frames.specs.declared.beginning.Beginning.{Beginning}
 use Rattle.srm_frames.specs.declared.reading.Record.{Record}
@@ -41,7 +37,7 @@ use Rattle.srm_audited.specs.declared.verdict.Verdict.{Verdict}
 use Rattle.srm_audited.specs.declared.verdict.Verdict.TheVariants.{Honest}
 use Rattle.srm_audited.specs.Verdicts.{IsVerdict}
 use Rattle.srm_audited.specs.Writers.{IsWrittenIn, IsWrittenWhole, AreWrittenWhole}
-use Rattle.srm_audited.specs.Written.{IsHandable, IsRecorded, IsReadingOf, IsReadWhole, IsReadPart, DidInRun, text_behind_calls, IsFileOf}
+use Rattle.srm_audited.specs.Written.{IsRecorded, IsReadingOf, IsReadWhole, IsReadPart, DidInRun, text_behind_calls, IsFileOf}
 use Rattle.srm_audited.proofs.Refusing.{completeness_law}
 use Rattle.srm_audited.proofs.Cutting.{begins_long, frame_long}
 use Rattle.srm_audited.proofs.Written.{written_law, cut_law}
@@ -66,26 +62,31 @@ none_taken = [] ∷ [] ∷ [] ∷ [] ∷ [] ∷ [] ∷ [] ∷ [] ∷ []
 abbrev all_taken : List (List PageMsg)
 all_taken = messages ∷ [] ∷ [] ∷ [] ∷ [] ∷ [] ∷ [] ∷ [] ∷ []
 
-lawful : (j : Journal) → IsMemberRun j.start.config j.start.made j.entries → AllByRecursion IsUntaken j.entries → NoneForMemory j.entries → IsLawfulJournal j
-lawful j is untaken memory = record {
-  run = is;
-  responds = response_law j.start.config j.start.made j.entries is;
-  gives = gives_law j.start.config j.start.made j.entries is;
-  rate = rate_law j.start.config j.start.made j.entries is;
-  untaken = untaken;
-  memory = memory;
-}
+-- what a recorder was handed
 
-never : Done ≢ Refused Memory
-never e = absurd (cc)
+first_handed : AllByRecursion IsHandable (calls 0)
+first_handed = (
+  record { moment = lit≤ tt; input = (lit< tt, lit< tt) },
+  (record { moment = lit≤ tt; input = tt }, (record { moment = lit≤ tt; input = tt }, (record { moment = lit≤ tt; input = tt }, tt))),
+)
+
+second_handed : AllByRecursion IsHandable (calls 1)
+second_handed = (
+  record { moment = lit≤ tt; input = tt },
+  (
+    record { moment = lit≤ tt; input = tt },
+    (record { moment = lit≤ tt; input = lit< tt }, (record { moment = lit≤ tt; input = lit< tt }, (record { moment = lit≤ tt; input = lit< tt }, tt))),
+  ),
+)
 
 first_lawful : IsLawfulJournal (journal 0)
-first_lawful = lawful (journal 0) run.each.0 (refl, (refl, (refl, (refl, tt)))) (never, (never, (never, (never, tt))))
+first_lawful = lawful_journal (journal 0) (record { run = run.each.0; handed = first_handed })
 
 second_lawful : IsLawfulJournal (journal 1)
-second_lawful =
-    lawful (journal 1) (run_part (config 1) 0 (calls 1) (drop 5 (of_member 1 trace.entries)) (subst (IsMemberRun (config 1) 0) (sym (take-append-drop 5 (of_member 1 trace.entries))) run.each.1.0)) (refl, (refl, (refl, (refl, (refl, tt)))))
-    (never, (never, (never, (never, (never, tt)))))
+second_lawful = lawful_journal (journal 1) (record {
+  run = run_part (config 1) 0 (calls 1) (drop 5 (of_member 1 trace.entries)) (subst (IsMemberRun (config 1) 0) (sym (take-append-drop 5 (of_member 1 trace.entries))) run.each.1.0);
+  handed = second_handed;
+})
 
 settings_fit : (me : ℕ) → me < 2 → IsBeginning (began me)
 settings_fit me l = record {
@@ -121,29 +122,11 @@ some_taken (suc slot) list at =
     subst (λ ms. IsPrefix ms (given (calls 1) (suc slot))) (by_place (λ (ms : List PageMsg). [] ≡ ms) ([] ∷ [] ∷ [] ∷ [] ∷ [] ∷ [] ∷ [] ∷ []) slot list (refl, (refl, (refl, (refl, (refl, (refl, (refl, tt))))))) at)
     (given (calls 1) (suc slot), refl)
 
--- what a recorder was handed
-
-first_handed : AllByRecursion IsHandable (calls 0)
-first_handed = (
-  record { moment = lit≤ tt; input = (lit< tt, lit< tt) },
-  (record { moment = lit≤ tt; input = tt }, (record { moment = lit≤ tt; input = tt }, (record { moment = lit≤ tt; input = tt }, tt))),
-)
-
-second_handed : AllByRecursion IsHandable (calls 1)
-second_handed = (
-  record { moment = lit≤ tt; input = tt },
-  (
-    record { moment = lit≤ tt; input = tt },
-    (record { moment = lit≤ tt; input = lit< tt }, (record { moment = lit≤ tt; input = lit< tt }, (record { moment = lit≤ tt; input = lit< tt }, tt))),
-  ),
-)
-
 first_recorded : IsRecorded (began 0) (journal 0) none_taken
 first_recorded = record {
   beginning = settings_fit 0 (lit< tt);
   start = refl;
   lawful = first_lawful;
-  handed = first_handed;
   words = (words_of 0, refl);
   slots = refl;
   taken = nothing_taken;
@@ -154,7 +137,6 @@ second_recorded = record {
   beginning = settings_fit 1 (lit< tt);
   start = refl;
   lawful = second_lawful;
-  handed = second_handed;
   words = (words_of 0, refl);
   slots = refl;
   taken = some_taken;

@@ -21,7 +21,7 @@ use Rattle.srm_entries.specs.Runs.{IsMemberRun}
 use Rattle.srm_entries.specs.Timers.{low_of, high_of}
 use Rattle.srm_entries.proofs.Cutting.{run_part}
 use Rattle.srm_world.specs.declared.start.Start.{Start}
-use Rattle.srm_world.specs.Traces.{Journal, IsUntaken}
+use Rattle.srm_world.specs.Traces.{Journal, IsHandable}
 use Rattle.srm_world.specs.Claims.{IsLawfulJournal}
 use Rattle.srm_world.specs.WaitWords.{AreByWords, arms_in}
 use Rattle.srm_world.proofs.Lawful.{lawful_journal}
@@ -53,7 +53,7 @@ record AreWritten (b : Beginning) (j : Journal) (lists : List (List PageMsg)) : 
 
 all_fit : (b : Beginning) (j : Journal) (lists : List (List PageMsg)) → IsRecorded b j lists → AreWritten b j lists
 all_fit b j lists is =
-    let low : last_of_record b j.entries ≤ LATEST_MOMENT = last_fits b.made j.entries is.beginning.made is.handed in
+    let low : last_of_record b j.entries ≤ LATEST_MOMENT = last_fits b.made j.entries is.beginning.made is.lawful.handed in
     let in_roster = is.beginning.config.in_roster in
     let few = is.beginning.config.members in
     let mine : b.config.me < MEMBERS = omega (arith, in_roster, few) in
@@ -61,8 +61,8 @@ all_fit b j lists is =
     record {
       calls =
           AllByRecursion-append IsLine (lines_so_far b j.entries) (takes_at (last_of_record b j.entries) lists)
-          (lines_fit j.start.config j.start.made b.config.session [] j.entries is.lawful.run.each is.handed)
-          (takes_fit j.start.config j.start.made j.entries (last_of_record b j.entries) lists me is.lawful.run.each is.handed low is.slots is.taken);
+          (lines_fit j.start.config j.start.made b.config.session [] j.entries is.lawful.run.each is.lawful.handed)
+          (takes_fit j.start.config j.start.made j.entries (last_of_record b j.entries) lists me is.lawful.run.each is.lawful.handed low is.slots is.taken);
       end = record { moment = low; call = tt; size = lit< tt };
     }
 
@@ -141,7 +141,7 @@ lawful_first : (j : Journal) (calls : List Entry) → IsPrefix calls j.entries �
 lawful_first j calls (more, e) lawful =
     lawful_journal (record { start = j.start; entries = calls }) (record {
       run = run_part j.start.config j.start.made calls more (subst (IsMemberRun j.start.config j.start.made) (sym e) lawful.run);
-      untaken = (AllByRecursion-parts IsUntaken calls more (subst (AllByRecursion IsUntaken) (sym e) lawful.untaken)).0;
+      handed = (AllByRecursion-parts IsHandable calls more (subst (AllByRecursion IsHandable) (sym e) lawful.handed)).0;
     })
 
 part_read : (b : Beginning) (j : Journal) (lists : List (List PageMsg)) (ls left : List Line) (n : ℕ) (r : Record) → IsRecorded b j lists → IsTold b j lists ls → ls ++ left ≡ whole_lines b j.entries lists

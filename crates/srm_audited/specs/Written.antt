@@ -1,16 +1,12 @@
 -- What a member's record is read as, once its file is written, whole or in part.
-use Rattle.std.specs.Prelude.{◌≡◌, ℕ, ◌+◌, ◌<◌, ◌≤◌, false, List, [], ◌∷◌, ◌++◌, length, slice_get, Some, Result, MatchResult, Contains}
-use Rattle.std.specs.List.{AllByRecursion}
+use Rattle.std.specs.Prelude.{◌≡◌, ℕ, ◌+◌, ◌≤◌, false, List, [], ◌∷◌, ◌++◌, length, slice_get, Some, Result, MatchResult, Contains}
 use Rattle.rand_pcg.specs.Lcg.{Lcg}
 use Rattle.rand_pcg.specs.Pcg.{pcg64}
-use Rattle.srm_names.specs.declared.limits.TheConstants.{LATEST_MOMENT, PAGES}
+use Rattle.srm_names.specs.declared.limits.TheConstants.{PAGES}
 use Rattle.srm_names.specs.declared.page_msg.PageMsg.{PageMsg}
 use Rattle.srm_names.specs.Histories.{IsPrefix}
-use Rattle.srm_codec.specs.Spelling.{is_page}
 use Rattle.srm_timers.specs.Seeds.{words_of}
 use Rattle.srm_entries.specs.declared.entry.Entry.{Entry}
-use Rattle.srm_entries.specs.declared.entry.Input.{Input}
-use Rattle.srm_entries.specs.declared.entry.Input.TheVariants.{Drew, Showed, Gave}
 use Rattle.srm_entries.specs.Giving.{given}
 use Rattle.srm_world.specs.Traces.{Trace, Journal, of_member, IsRun}
 use Rattle.srm_world.specs.Claims.{IsLawfulJournal}
@@ -31,24 +27,11 @@ use Rattle.srm_record.specs.Writing.{FileView, HasRecord, text_since_sending}
 use Rattle.srm_audited.specs.Sessions.{is_cut}
 use Rattle.srm_audited.specs.Writers.{IsWrittenIn, IsWrittenWhole}
 
--- a page in its range, or a page slot 0 to 7
-abbrev pub CanBeHanded : Input → Type 0
-CanBeHanded (Drew page body) = is_page page
-CanBeHanded (Showed page) = is_page page
-CanBeHanded (Gave slot) = slot < PAGES
-CanBeHanded _ = Unit {0}
-
--- A recorder can be handed the call, at a moment up to 2^48. The types and preconditions of its methods say so call by call; no contract collects it of all calls.
-pub record IsHandable (e : Entry) : Type 0 where
-  pub moment : e.moment ≤ LATEST_MOMENT
-  pub input : CanBeHanded e.input
-
 -- A member that began so did this, with the random numbers of its seed, as a recorder makes its calls. There is one list for each page slot: what its page worker took, a prefix of what was given there.
 pub record IsRecorded (b : Beginning) (j : Journal) (lists : List (List PageMsg)) : Type 0 where
   pub beginning : IsBeginning b
   pub start : j.start ≡ start_of b
   pub lawful : IsLawfulJournal j
-  pub handed : AllByRecursion IsHandable j.entries
   pub words : (to : Lcg) × AreByWords pcg64 j.start.config (words_of b.seed) j.entries to
   pub slots : length lists ≡ PAGES
   pub taken : (slot : ℕ) (list : List PageMsg) → slice_get lists slot ≡ Some list → IsPrefix list (given j.entries slot)

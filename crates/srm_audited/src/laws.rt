@@ -15,9 +15,8 @@ pub fn honest_runs_are_found()
     ensures { CompletenessLaw }
 {}
 
-/// States that what is written of a member is read as its record, and does nothing. A recorder makes the member's calls, with the random numbers of the seed in its beginning. All moments
-/// are at most 2^48, all pages in their range, and all page slots 0 to 7. No contract collects that of a recorder's calls; a caller of its methods meets it call by call. Each of the eight
-/// page slots has one list, a prefix of what the member gave there.
+/// States that what is written of a member is read as its record, and does nothing. Its journal is lawful, as a recorder's contracts say, with the random numbers of the seed in its
+/// beginning. Each of the eight page slots has one list, a prefix of what the member gave there.
 ///
 /// - `whole`: from the member's whole record, which [`Written::end`](srm_record::Written::end) writes, [`read_record`](srm_frames::read_record) returns the record of this beginning, these
 ///   calls and these lists, unless memory runs out;

@@ -31,7 +31,7 @@ use Rattle.srm_entries.specs.Giving.{given, given_in}
 use Rattle.srm_entries.specs.Hearing.{bytes_heard, read_as}
 use Rattle.srm_entries.specs.Runs.{IsMemberRun}
 use Rattle.srm_entries.proofs.Feeding.{given-append}
-use Rattle.srm_world.specs.Traces.{Journal, IsUntaken}
+use Rattle.srm_world.specs.Traces.{Journal, IsHandable}
 use Rattle.srm_world.specs.Claims.{IsLawfulJournal}
 use Rattle.srm_world.specs.Recording.{with_entry, with_entries, HearsEach}
 use Rattle.srm_world.proofs.Lawful.{lawful_journal}
@@ -313,7 +313,7 @@ keeps_new j feeds received none new empty = record {
 }
   where
     lawful : IsLawfulJournal j
-    lawful = lawful_journal j (record { run = subst (IsMemberRun j.start.config j.start.made) (sym none) (new_run j.start.config j.start.made); untaken = subst (AllByRecursion IsUntaken) (sym none) tt })
+    lawful = lawful_journal j (record { run = subst (IsMemberRun j.start.config j.start.made) (sym none) (new_run j.start.config j.start.made); handed = subst (AllByRecursion IsHandable) (sym none) tt })
 
     carried : (slot : ℕ) (f : FeedView) → ((f.put ≡ []) × (f.disconnected ≡ false)) → Carries (given j.entries slot) f
     carried slot f h = carries_standing (given j.entries slot) f h.1 (ap (λ es. given es slot) none ∙ sym h.0)

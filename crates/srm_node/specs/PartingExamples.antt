@@ -33,7 +33,7 @@ use Rattle.srm_node.specs.declared.fault.NodeFault.TheVariants.{Turns}
 use Rattle.srm_node.specs.Carrying.{Carries, CarriesEach}
 use Rattle.srm_node.specs.Nodes.{has_ended}
 use Rattle.srm_node.specs.Turns.{DrawsNow, LeavesNow, TicksNow, GivesNow, Turned, RunEnds}
-use Rattle.srm_node.specs.TurnSample.{Node, at_each, eight, journal, calls, unturned, unpaused, waits_once, read_once, reads_once, heard_nothing, hears_nothing, looked, looks_once, shows_nothing, gives_as, opens_as, give_right, gives_up_to}
+use Rattle.srm_node.specs.TurnSample.{Node, at_each, eight, journal, calls, unturned, unpaused, waits_once, read_once, reads_once, heard_nothing, hears_nothing, looked, looks_once, shows_nothing, gives_as, opens_as, give_right, handed_at_1, gives_up_to}
 
 -- WHAT THE TURN WRITES
 
@@ -158,7 +158,7 @@ goings_right = (idle_right refl, (idle_right refl, (idle_right refl, (idle_right
 pub lawful : IsLawfulJournal (journal entries)
 lawful = lawful_journal (journal entries) (record {
   run = record { each = each_right; bucket = (map idle entries, refl, goings_right, law) };
-  untaken = (refl, (refl, (refl, (refl, (refl, (refl, (refl, (refl, (refl, (refl, (refl, (refl, (refl, (refl, (refl, (refl, (refl, (refl, (refl, tt)))))))))))))))))));
+  handed = handed_at_1 entries ((refl, tt), ((refl, tt), ((refl, lit< tt), ((refl, lit< tt), ((refl, lit< tt), ((refl, lit< tt), ((refl, lit< tt), ((refl, lit< tt), ((refl, lit< tt), ((refl, lit< tt), ((refl, lit< tt), ((refl, lit< tt), ((refl, lit< tt), ((refl, lit< tt), ((refl, lit< tt), ((refl, lit< tt), ((refl, lit< tt), ((refl, lit< tt), ((refl, lit< tt), tt)))))))))))))))))));
 })
 
 -- THE TURN

@@ -15,7 +15,7 @@ use Rattle.srm_entries.specs.Entries.{state, is_missing}
 use Rattle.srm_entries.specs.Timers.{fix_running}
 use Rattle.srm_entries.specs.Giving.{MessageRight}
 use Rattle.srm_entries.specs.Runs.{EntryRight, MomentRight, expected_state}
-use Rattle.srm_world.specs.Traces.{Journal}
+use Rattle.srm_world.specs.Traces.{Journal, CanBeHanded, IsHandable}
 use Rattle.srm_world.specs.Claims.{IsLawfulJournal}
 use Rattle.srm_node.specs.Carrying.{CarriesEach}
 use Rattle.srm_node.specs.Parts.{GivesUpTo, SameFeed, is_give, is_served}
@@ -121,6 +121,11 @@ pub give_right : (s : AgentState) (past : List Entry) (slot : ℕ) (message : Op
     → ((n : FullName) → fix_running past n ≡ None) → MomentRight (config 0) 0 past (gives_as s slot message) → MessageRight (config 0) past (Gave slot) message → s ≡ expected_state (state past) false (Some (Gave slot))
     → EntryRight (config 0) 0 (record { before = past; this = gives_as s slot message })
 give_right s past slot message here next fix moment given after = right (config 0) 0 past 0 1 (Gave slot) None [] message s here next (λ n. refl) fix refl moment refl refl tt tt tt refl given after
+
+-- a recorder takes such calls at moment 1
+pub handed_at_1 : (es : List Entry) → AllByRecursion (λ (e : Entry). (e.moment ≡ 1) × CanBeHanded e.input) es → AllByRecursion IsHandable es
+handed_at_1 [] all = tt
+handed_at_1 (e ∷ es) all = (record { moment = omega (arith, all.0.0); input = all.0.1 }, handed_at_1 es all.1)
 
 -- the first feed puts these by the gives, and each other one those
 pub gives_up_to : (put rest : List PageMsg) (past gives : List Entry) (lane : LaneId) → AllByRecursion (λ (e : Entry). is_give e.input ≡ true) gives → IsLawfulJournal (journal (past ++ gives))

@@ -1,7 +1,7 @@
 -- A node's first turn at worked examples, whole and cut: it draws a stroke and gives it.
 use Rattle.std.specs.Prelude.{◌≡◌, ◌+◌, ℕ, suc, Bool, true, false, List, [], ◌∷◌, ◌++◌, map, take, Some, None, Ok, refl, if◌then◌else◌}
 use Rattle.std.specs.List.{AllByRecursion}
-use Rattle.std.proofs.Common.{arith, inl, inr, ap, sym, lit≤}
+use Rattle.std.proofs.Common.{arith, inl, inr, ap, sym, lit≤, lit<}
 use Rattle.srm_names.specs.Histories.{steps}
 use Rattle.srm_names.specs.Names.{first_page}
 use Rattle.srm_names.specs.declared.page_msg.PageMsg.{PageMsg}
@@ -27,7 +27,7 @@ use Rattle.srm_world.proofs.Lawful.{lawful_journal}
 use Rattle.srm_wire.specs.Wires.{bytes_to}
 use Rattle.srm_node.specs.Carrying.{Carries, CarriesEach, DrawsReceived}
 use Rattle.srm_node.specs.Parts.{IsAdmitted, is_to_leave, still_asked}
-use Rattle.srm_node.specs.TurnSample.{Node, at_each, feed, eight, journal, calls, unturned, read_once, reads_once, heard_nothing, hears_nothing, looked, looks_once, shows_nothing, gives_as, opens_as, give_right, gives_up_to}
+use Rattle.srm_node.specs.TurnSample.{Node, at_each, feed, eight, journal, calls, unturned, read_once, reads_once, heard_nothing, hears_nothing, looked, looks_once, shows_nothing, gives_as, opens_as, give_right, handed_at_1, gives_up_to}
 use Rattle.srm_node.specs.Nodes.{AreNewFeeds, IsNewJournal, IsNewNode, IsMadeNow}
 use Rattle.srm_node.specs.Turns.{DrawsNow, LeavesNow, TicksNow, GivesNow, DrawsCut, Turned, TurnEnds, IsCut}
 
@@ -164,7 +164,7 @@ goings_right = (idle_right refl, (record { same = refl; at_ticks = tt }, (idle_r
 pub lawful : IsLawfulJournal (journal entries)
 lawful = lawful_journal (journal entries) (record {
   run = record { each = each_right; bucket = (goings, refl, goings_right, law) };
-  untaken = (refl, (refl, (refl, (refl, (refl, (refl, (refl, (refl, (refl, (refl, (refl, (refl, tt))))))))))));
+  handed = handed_at_1 entries ((refl, (lit< tt, lit< tt)), ((refl, tt), ((refl, lit< tt), ((refl, lit< tt), ((refl, lit< tt), ((refl, lit< tt), ((refl, lit< tt), ((refl, lit< tt), ((refl, lit< tt), ((refl, lit< tt), ((refl, lit< tt), ((refl, lit< tt), tt))))))))))));
 })
 
 -- A WHOLE TURN

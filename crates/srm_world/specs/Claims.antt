@@ -16,7 +16,7 @@ use Rattle.srm_entries.specs.Runs.{IsMemberRun, RespondsInTime}
 use Rattle.srm_entries.specs.Promises.{GivesReleased}
 use Rattle.srm_entries.specs.Rates.{KeepsRate}
 use Rattle.srm_world.specs.declared.start.Start.{Start}
-use Rattle.srm_world.specs.Traces.{Trace, Journal, of_member, drawn_by, taken_by, IsHonest, IsRun, IsUntaken}
+use Rattle.srm_world.specs.Traces.{Trace, Journal, of_member, drawn_by, taken_by, IsHonest, IsRun, IsHandable, IsUntaken}
 
 -- What was taken in a slot is a page feed. In the slot of a page, what was taken of a source is a prefix of what that source
 -- drew on the page, and the whole of it once the source's leaving was taken.
@@ -110,11 +110,12 @@ abbrev pub NoneForMemory : List Entry → Type 0
 NoneForMemory es = AllByRecursion (λ (e : Entry). e.verdict ≢ Refused Memory) es
 
 -- The journal is a run of its member, whatever came to it: timers, bucket, session messages and verdicts are right. So the member responds in time, gives a page
--- feed of what is released, and keeps its rate. No entry is a take, since a page worker takes and not the agent. No entry is of a call that was out of memory.
+-- feed of what is released, and keeps its rate. Each entry is of a call that a recorder takes, and so none is a page worker's take. No entry is of a call that was out of memory.
 pub record IsLawfulJournal (j : Journal) : Type 0 where
   pub run : IsMemberRun j.start.config j.start.made j.entries
   pub responds : RespondsInTime j.start.config j.entries
   pub gives : GivesReleased j.entries
   pub rate : KeepsRate j.start.config j.entries
+  pub handed : AllByRecursion IsHandable j.entries
   pub untaken : AllByRecursion IsUntaken j.entries
   pub memory : NoneForMemory j.entries

@@ -1,7 +1,7 @@
 -- The definitions on both stored scripts, and on events that are skipped.
-use Rattle.std.specs.Prelude.{◌≡◌, ℕ, true, false, List, [], ◌∷◌, ◌++◌, map, take, slice_get, Some, None, refl}
+use Rattle.std.specs.Prelude.{◌≡◌, ℕ, ◌+◌, ◌^◌, true, false, List, [], ◌∷◌, ◌++◌, map, take, slice_get, Some, None, refl}
 use Rattle.std.specs.List.{AllByRecursion}
-use Rattle.std.proofs.Common.{lit<, arith, zero, suc, sym, ◌∙◌, subst}
+use Rattle.std.proofs.Common.{lit<, lit≤, arith, zero, suc, sym, ◌∙◌, subst}
 use Rattle.std.proofs.lemmas.Option.{same_Some}
 use Rattle.srm_names.specs.declared.page.Page.{Page}
 use Rattle.srm_names.specs.declared.page_msg.PageMsg.TheVariants.{Open, Draw, Left}
@@ -21,7 +21,7 @@ use Rattle.srm_agent.specs.Noting.{moment_that_counts}
 use Rattle.srm_world.specs.declared.event.Event.{Event}
 use Rattle.srm_world.specs.declared.event.Event.TheVariants as events
 use Rattle.srm_world.specs.declared.start.Start.{Start}
-use Rattle.srm_world.specs.Traces.{of_member, drawn_by, taken_by, is_take, IsHonest, IsUntaken}
+use Rattle.srm_world.specs.Traces.{of_member, drawn_by, taken_by, is_take, IsHonest, IsUntaken, CanBeHanded, IsHandable}
 use Rattle.srm_world.specs.WaitWords.{RecorderView, WorldView, AreByWords, AreByOwnWords, RecordsByWords, PlaysByWords}
 use Rattle.srm_world.specs.Events.{member_of, moment_in, required_input, last_of_member, IsEntryOf, Follows}
 
@@ -361,3 +361,20 @@ untaken = (refl, (refl, (refl, (refl, tt))))
 
 which_takes : map is_take (Ticked ∷ Gave 3 ∷ Took 3 ∷ Noise ∷ []) ≡ false ∷ false ∷ true ∷ false ∷ []
 which_takes = refl
+
+-- a recorder takes these calls
+handed : AllByRecursion IsHandable first.member_0
+handed = (
+  record { moment = lit≤ tt; input = (lit< tt, lit< tt) },
+  (record { moment = lit≤ tt; input = (lit< tt, lit< tt) }, (record { moment = lit≤ tt; input = (lit< tt, lit< tt) }, (record { moment = lit≤ tt; input = tt }, tt))),
+)
+
+-- and neither a take, nor a page slot or a moment past the last
+no_take : CanBeHanded (Took 3) → ⊥
+no_take can = can
+
+no_ninth_slot : CanBeHanded (Gave 8) → ⊥
+no_ninth_slot can = omega (arith, can)
+
+none_too_late : IsHandable (ticks 0 (2 ^ 48 + 1) [] [] [] []) → ⊥
+none_too_late h = omega (arith, h.moment)

@@ -1,13 +1,15 @@
 -- Traces of several members: which are runs, and which are honest.
-use Rattle.std.specs.Prelude.{◌≡◌, ℕ, ◌==◌, ◌<◌, Bool, true, false, List, length, map, filter, IfSome, Contains}
+use Rattle.std.specs.Prelude.{◌≡◌, ℕ, ◌==◌, ◌<◌, ◌≤◌, Bool, true, false, List, length, map, filter, IfSome, Contains}
 use Rattle.std.specs.List.{AllByRecursion, enumerate_from}
+use Rattle.srm_names.specs.declared.limits.TheConstants.{LATEST_MOMENT, PAGES}
 use Rattle.srm_names.specs.declared.page.Page.{Page}
 use Rattle.srm_names.specs.declared.drawop.Drawop.{Drawop}
 use Rattle.srm_names.specs.declared.page_msg.PageMsg.{PageMsg}
 use Rattle.srm_names.specs.Histories.{Step, steps}
+use Rattle.srm_codec.specs.Spelling.{is_page}
 use Rattle.srm_entries.specs.declared.entry.Entry.{Entry}
 use Rattle.srm_entries.specs.declared.entry.Input.{Input}
-use Rattle.srm_entries.specs.declared.entry.Input.TheVariants.{Took}
+use Rattle.srm_entries.specs.declared.entry.Input.TheVariants.{Drew, Showed, Gave, Took}
 use Rattle.srm_entries.specs.Configs.{Config}
 use Rattle.srm_entries.specs.Entries.{accepted, sent, drawn_on}
 use Rattle.srm_entries.specs.Giving.{taken}
@@ -31,6 +33,19 @@ is_take _ = false
 -- the entry is of a call of an agent, and not of a page worker's take
 abbrev pub IsUntaken : Entry → Type 0
 IsUntaken e = is_take e.input ≡ false
+
+-- A recorder takes it: a page in its range, a page slot 0 to 7, and no take.
+abbrev pub CanBeHanded : Input → Type 0
+CanBeHanded (Drew page body) = is_page page
+CanBeHanded (Showed page) = is_page page
+CanBeHanded (Gave slot) = slot < PAGES
+CanBeHanded (Took slot) = ⊥
+CanBeHanded _ = Unit {0}
+
+-- The call is one that a recorder takes, at a moment up to 2^48.
+pub record IsHandable (e : Entry) : Type 0 where
+  pub moment : e.moment ≤ LATEST_MOMENT
+  pub input : CanBeHanded e.input
 
 -- how members with these settings begin, at moment 0
 abbrev pub started : List Config → List Start
@@ -77,7 +92,7 @@ pub record IsRunOf (starts : List Start) (es : List Entry) : Type 0 where
 abbrev pub IsRun : Trace → Type 0
 IsRun t = IsRunOf t.starts t.entries
 
--- the entries are a run of the member, and none of them is a take
+-- the entries are a run of the member, of calls that a recorder takes
 pub record IsJournal (j : Journal) : Type 0 where
   pub run : IsMemberRun j.start.config j.start.made j.entries
-  pub untaken : AllByRecursion IsUntaken j.entries
+  pub handed : AllByRecursion IsHandable j.entries

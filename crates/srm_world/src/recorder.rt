@@ -17,6 +17,7 @@ use crate::past::Past;
 use crate::start::Start;
 use bytes::Bytes;
 use srm_agent::{Agent, AgentFault, AgentState, Config, Entry, Heard, Input, Noted, Ticked};
+use srm_agent_state::page_in_range;
 use srm_names::{Member, Name, Page, PageMsg};
 use srm_timers::Words;
 use std::alloc::{AllocError, Global};
@@ -144,6 +145,8 @@ impl<W: Words + Drop, P: Past<Entry> + Drop> Recorder<W, P> {
         ensures words { RecordsByWords W.next_word self.old self.new }
         ensures lawful { IsLawfulJournal self.new.journal }
     {
+        let drawn_on = page;
+        page_in_range(drawn_on);
         self.past.make_room()?;
         let Noted { answer, entry } = self.agent.draw_noted(page, body, now)?;
         self.past.append(entry);
@@ -157,6 +160,8 @@ impl<W: Words + Drop, P: Past<Entry> + Drop> Recorder<W, P> {
         ensures words { RecordsByWords W.next_word self.old self.new }
         ensures lawful { IsLawfulJournal self.new.journal }
     {
+        let shown = page;
+        page_in_range(shown);
         self.past.make_room()?;
         let Noted { answer, entry } = self.agent.show_noted(page, now)?;
         self.past.append(entry);

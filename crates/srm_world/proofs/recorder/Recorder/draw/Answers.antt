@@ -1,12 +1,12 @@
 use Rattle.std.proofs.Common.{refl, ap, ◌∙◌, ◌∷◌, ◌++◌, [], Some}
 use Rattle.srm_entries.specs.declared.entry.Input.TheVariants.{Drew}
 use Rattle.srm_world.specs.Recorders.{journal_of}
-use Rattle.srm_world.proofs.Journaling.{kept_drawn, kept_same, entries_same, lawful, lawful_after}
+use Rattle.srm_world.proofs.Journaling.{still_kept, kept_same, entries_same, lawful, lawful_after}
 use Rattle.srm_world.proofs.Wording.{recorded_by}
 use Rattle.srm_world.proofs.recorder.Recorder.draw.Goals as goal
 
 pub returns-clause-lawful : goal.returns-clause-lawful
-returns-clause-lawful g c = lawful_after g.W.Words.next_word (Some c.args.now) (Drew c.args.page c.args.body) _ c.self.inside.agent c.draw_noted.new.self c.in_ok-answer.field-0.entry _ c.self.invariant c.in_ok-answer.ensures.ok refl
+returns-clause-lawful g c = lawful_after g.W.Words.next_word (Some c.args.now) (Drew c.args.page c.args.body) _ c.self.inside.agent c.draw_noted.new.self c.in_ok-answer.field-0.entry _ c.self.invariant c.in_ok-answer.ensures.ok c.requires c.page_in_range.ensures
     (ap (λ es. record { start = c.self.inside.start; entries = es }) (c.append.ensures ∙ ap (λ es. es ++ c.in_ok-answer.field-0.entry ∷ []) c.in_ok-make_room.ensures.same))
 
 pub returns-in_err-make_room-clause-lawful : goal.returns-in_err-make_room-clause-lawful
@@ -20,5 +20,5 @@ returns-clause-words g c = rw (← c.self.view_is) (recorded_by g.W.Words.next_w
     (c.append.ensures ∙ ap (λ es. es ++ c.in_ok-answer.field-0.entry ∷ []) c.in_ok-make_room.ensures.same))
 
 pub invariant_of-self-2 : goal.invariant_of-self-2
-invariant_of-self-2 g c = kept_drawn g.W.Words.next_word _ _ _ (journal_of c.self.inside.start (g.P.Past.appended c.self.inside.past)) c.self.inside.agent c.draw_noted.new.self c.in_ok-answer.field-0.entry (g.P.Past.appended c.append.new.self) c.self.invariant c.in_ok-answer.ensures.ok
+invariant_of-self-2 g c = still_kept g.W.Words.next_word (Some c.args.now) (Drew c.args.page c.args.body) (journal_of c.self.inside.start (g.P.Past.appended c.self.inside.past)) c.self.inside.agent c.draw_noted.new.self c.in_ok-answer.field-0.entry (g.P.Past.appended c.append.new.self) c.self.invariant c.in_ok-answer.ensures.ok c.requires c.page_in_range.ensures
     (c.append.ensures ∙ ap (λ es. es ++ c.in_ok-answer.field-0.entry ∷ []) c.in_ok-make_room.ensures.same)

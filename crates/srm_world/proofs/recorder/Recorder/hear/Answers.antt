@@ -5,7 +5,7 @@ use Rattle.srm_world.proofs.Wording.{recorded_by, unrecorded}
 use Rattle.srm_world.proofs.recorder.Recorder.hear.Goals as goal
 
 pub returns-clause-lawful : goal.returns-clause-lawful
-returns-clause-lawful g c = lawful_heard g.W.Words.next_word c.args.now _ _ c.self.inside.agent c.hear_noted.new.self c.in_ok-answer.field-0.entry _ c.self.invariant c.in_ok-answer.ensures.ok c.in_ok-answer.ensures.reading
+returns-clause-lawful g c = lawful_heard g.W.Words.next_word c.args.now _ _ c.self.inside.agent c.hear_noted.new.self c.in_ok-answer.field-0.entry _ c.self.invariant c.in_ok-answer.ensures.ok c.in_ok-answer.ensures.reading c.requires
     (ap (λ es. record { start = c.self.inside.start; entries = es }) (c.append.ensures ∙ ap (λ es. es ++ c.in_ok-answer.field-0.entry ∷ []) c.in_ok-make_room.ensures.same))
 
 pub invariant_of-self : goal.invariant_of-self
@@ -15,7 +15,7 @@ pub invariant_of-self-in_err-answer : goal.invariant_of-self-in_err-answer
 invariant_of-self-in_err-answer g c = kept_same (journal_of c.self.inside.start (g.P.Past.appended c.self.inside.past)) c.self.inside.agent c.hear_noted.new.self (g.P.Past.appended c.make_room.new.self) c.self.invariant c.in_err-answer.ensures.err c.in_ok-make_room.ensures.same
 
 pub invariant_of-self-2 : goal.invariant_of-self-2
-invariant_of-self-2 g c = still_heard g.W.Words.next_word c.args.now _ (journal_of c.self.inside.start (g.P.Past.appended c.self.inside.past)) c.self.inside.agent c.hear_noted.new.self c.in_ok-answer.field-0.entry (g.P.Past.appended c.append.new.self) c.self.invariant c.in_ok-answer.ensures.ok c.in_ok-answer.ensures.reading
+invariant_of-self-2 g c = still_heard g.W.Words.next_word c.args.now _ (journal_of c.self.inside.start (g.P.Past.appended c.self.inside.past)) c.self.inside.agent c.hear_noted.new.self c.in_ok-answer.field-0.entry (g.P.Past.appended c.append.new.self) c.self.invariant c.in_ok-answer.ensures.ok c.in_ok-answer.ensures.reading c.requires
     (c.append.ensures ∙ ap (λ es. es ++ c.in_ok-answer.field-0.entry ∷ []) c.in_ok-make_room.ensures.same)
 
 pub returns-in_err-make_room-clause-lawful : goal.returns-in_err-make_room-clause-lawful
