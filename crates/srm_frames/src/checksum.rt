@@ -24,7 +24,7 @@ fn after_sixteens(before: u32, sixteens: &[[u8; 16]]) -> u32
     register
 }
 
-// Four bytes at once, as far as there are so many.
+// Four bytes at a time, and the rest one by one.
 fn after_few(before: u32, bytes: &[u8]) -> u32
     ensures { result ≡ fold after_byte before bytes.now }
 {
@@ -70,7 +70,7 @@ fn after_four(register: u32, four: &[u8; 4]) -> u32
     after_four_and_zeros(0, register, four)
 }
 
-// Four bytes, and so many bytes of zeros behind them.
+// Four bytes, with this many zero bytes behind them.
 fn after_four_and_zeros(zeros: usize, register: u32, four: &[u8; 4]) -> u32
     requires { zeros ≤ 12 }
     ensures { result ≡ remainder_after (8 * zeros) (fold after_byte register four.now) }
@@ -90,7 +90,7 @@ fn after_byte(register: u32, byte: u8) -> u32
     remainder(0, (register ^ u32::from(byte)) & 0xff) ^ (register >> 8)
 }
 
-// What a byte leaves with so many bytes of zeros behind it.
+// What a byte leaves, with this many zero bytes behind it.
 fn remainder(zeros: usize, low: u32) -> u32
     requires few { zeros < 16 }
     requires byte { low < 256 }

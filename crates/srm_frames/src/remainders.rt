@@ -1,6 +1,6 @@
-//! What is left of each byte once it is divided out, with bytes of zeros behind it.
+//! What each byte leaves once it is divided out, with zero bytes behind it.
 
-/// What each byte leaves: a row for each number of bytes of zeros behind it, none to fifteen.
+/// What each byte leaves, first by how many zero bytes stand behind it, none to fifteen.
 pub static REMAINDERS: [[u32; 256]; 16] = [
     [
         0x00000000, 0x77073096, 0xee0e612c, 0x990951ba, 0x076dc419, 0x706af48f, 0xe963a535,
