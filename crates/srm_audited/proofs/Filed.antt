@@ -1,6 +1,6 @@
 -- The records that are read of the files of a run's members are written in it.
 use Rattle.std.proofs.Common.{◌≡◌, ℕ, ◌+◌, ◌≤◌, Bool, true, false, List, [], ◌∷◌, ◌++◌, length, refl, ap, sym, ◌∙◌, subst, inl, inr, arith, append_assoc, length-append, Ok, Err}
-use Rattle.std.specs.Prelude.{Option, Some, ◌||◌, not, if◌then◌else◌, Contains}
+use Rattle.std.specs.Prelude.{Option, Some, None, ◌||◌, not, if◌then◌else◌, Contains}
 use Rattle.std.specs.List.{AllByRecursion, list_any}
 use Rattle.std.specs.Io.KnownBytes.{Appends}
 use Rattle.std.proofs.lemmas.Grind.{flat_map-append}
@@ -27,7 +27,7 @@ use Rattle.srm_record.specs.Writing.{sends}
 use Rattle.srm_gaps.proofs.Exactly.{sent_acting, unseen_of_member}
 use Rattle.srm_gaps.proofs.Retelling.{unseen_in_run}
 use Rattle.srm_audited.specs.Writers.{IsWrittenWhole}
-use Rattle.srm_audited.specs.Written.{IsRecorded, IsReadingOf, IsReadPart, DidInRun, CutFilesLaw, text_behind_calls, IsFileOf, KeptLaw, FilesLaw}
+use Rattle.srm_audited.specs.Written.{IsRecorded, IsReadingOf, IsReadPart, DidInRun, CutFilesLaw, text_behind_calls, IsFileOf, KeptLaw, EndedLaw, FilesLaw}
 use Rattle.srm_audited.proofs.Fronts.{Holds, fronts}
 use Rattle.srm_audited.proofs.Cutting.{empty, begins_long}
 use Rattle.srm_audited.proofs.Telling.{IsSilent}
@@ -112,6 +112,23 @@ kept_law v es lists bytes has first now =
       },
       (part.behind ++ behind, more_missing v.beginning es lists bytes part.behind (ap (λ w. w ++ part.behind) (took v.first v.now bytes part.most.front first now part.most.output) ∙ part.most.parts)),
     )
+
+pub ended_law : EndedLaw
+ended_law v es lists bytes has works first stays front = go v.now refl
+  where
+    go : (o : Option (List ℕ)) → v.now ≡ o → IsFileOf v.beginning es lists bytes
+    go None none = let all = has.text.whole works in absurd (subst (λ o. Appends (Some []) o all.front) none (subst (λ o. Appends o v.now all.front) first all.output))
+    go (Some before) now =
+        let kept = (kept_law v es lists before has first now).0 works in
+        let parts : bytes ++ front.behind ≡ whole_record v.beginning es lists = ap (λ w. w ++ front.behind) (took v.first (Some bytes) bytes front.most.front first refl front.most.output) ∙ front.most.parts in
+        let more : bytes ≡ before ++ stays.0 = subst (λ o. Appends o (Some bytes) stays.0) now stays.1 in
+        let same : length before + length kept.missing ≡ length bytes + length front.behind =
+        sym (length-append before kept.missing) ∙ ap length (kept.parts ∙ sym parts) ∙ length-append bytes front.behind in
+        record {
+          missing = front.behind;
+          parts = parts;
+          few = omega (arith, kept.few, same, ap length more, length-append before stays.0);
+        }
 
 -- the calls up to the last one that sends are in the file
 record HasSending (b : Beginning) (j : Journal) (lists : List (List PageMsg)) (bytes : List ℕ) : Type 0 where

@@ -23,7 +23,8 @@ use Rattle.srm_frames.specs.WhatIsRead.{IsBeginning, RecordView, IsRecordIn, IsF
 use Rattle.srm_record.specs.Takes.{takes_at, end_at}
 use Rattle.srm_record.specs.Records.{last_of_record, whole_record}
 use Rattle.srm_record.specs.Replays.{start_of, IsRecordOf, IsSpelled}
-use Rattle.srm_record.specs.Writing.{FileView, HasRecord, text_since_sending}
+use Rattle.srm_output.specs.Writing.{AppendsFront}
+use Rattle.srm_record.specs.Writing.{FileView, HasRecord, Stays, text_since_sending}
 use Rattle.srm_audited.specs.Sessions.{is_cut}
 use Rattle.srm_audited.specs.Writers.{IsWrittenIn, IsWrittenWhole}
 
@@ -98,6 +99,11 @@ pub record IsFileOf (b : Beginning) (es : List Entry) (lists : List (List PageMs
 abbrev pub KeptLaw : Type 0
 KeptLaw = (v : FileView) (es : List Entry) (lists : List (List PageMsg)) (bytes : List ℕ) → HasRecord v es → v.first ≡ Some [] → v.now ≡ Some bytes
     → (v.failed ≡ false → IsFileOf v.beginning es lists bytes) × IsPrefix bytes (whole_record v.beginning es lists)
+
+-- A writer's end leaves such bytes too, also if it fails, unless the file or memory had failed before.
+abbrev pub EndedLaw : Type 0
+EndedLaw = (v : FileView) (es : List Entry) (lists : List (List PageMsg)) (bytes : List ℕ) → HasRecord v es → v.failed ≡ false → v.first ≡ Some [] → Stays v.now (Some bytes)
+    → AppendsFront v.first (Some bytes) (whole_record v.beginning es lists) → IsFileOf v.beginning es lists bytes
 
 -- Such a file is read as a record that its member wrote in the run, with the member's beginning. The record is whole, or its member sent nothing behind its cut.
 abbrev pub FilesLaw : Type 0

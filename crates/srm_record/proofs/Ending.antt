@@ -16,7 +16,8 @@ use Rattle.srm_record.specs.Records.{record_text, lines_so_far, record_of, last_
 use Rattle.srm_record.specs.Takes.{take_at, slot_lines, takes_at, end_at}
 use Rattle.srm_output.specs.Writing.{AppendsFront}
 use Rattle.srm_output.proofs.Gathered.{all_of_all}
-use Rattle.srm_record.specs.Writing.{FileView, HasText, HasRecord, Adds, GoesOn, Writes}
+use Rattle.srm_record.specs.Writing.{FileView, HasText, HasRecord, Stays, Adds, GoesOn, Writes}
+use Rattle.srm_record.proofs.Filing.{stays_so, stays_on}
 
 -- ---- bytes go on behind bytes
 
@@ -24,17 +25,19 @@ pub goes_nowhere : (v : FileView) → GoesOn v v []
 goes_nowhere v = record {
   beginning = refl;
   first = refl;
+  now = stays_so v.now;
   last = refl;
   text = λ text has. subst (HasText v) (sym (append-nil text)) has;
 }
 
 pub of_adds : (old new : FileView) (bytes : List ℕ) → Adds old new bytes → GoesOn old new bytes
-of_adds old new bytes adds = record { beginning = adds.beginning; first = adds.first; last = adds.last; text = adds.text }
+of_adds old new bytes adds = record { beginning = adds.beginning; first = adds.first; now = subst (Stays old.now) (sym adds.now) (stays_so old.now); last = adds.last; text = adds.text }
 
 pub of_writes : (old new : FileView) → Writes old new → GoesOn old new []
 of_writes old new writes = record {
   beginning = writes.beginning;
   first = writes.first;
+  now = writes.now;
   last = writes.last;
   text = λ text has. subst (HasText new) (sym (append-nil text)) (writes.text text has);
 }
@@ -43,6 +46,7 @@ goes_further : (old mid new : FileView) (bytes more : List ℕ) → GoesOn old m
 goes_further old mid new bytes more first second = record {
   beginning = second.beginning ∙ first.beginning;
   first = second.first ∙ first.first;
+  now = stays_on old.now mid.now new.now first.now second.now;
   last = second.last ∙ first.last;
   text = λ text has. subst (HasText new) (append_assoc text bytes more) (second.text (text ++ bytes) (first.text text has));
 }
@@ -124,3 +128,7 @@ pub ended_front : (old taken mid new : FileView) (lists : List (List PageMsg)) �
 ended_front old taken mid new lists goes adds writes es has =
     subst (λ (a : Option (List ℕ)). AppendsFront a new.now (whole_record old.beginning es lists)) (writes.first ∙ adds.first ∙ goes.first)
     (ended_text old taken mid new lists goes adds writes es has).front
+
+pub ended_stays : (old taken mid new : FileView) (bytes more : List ℕ) → GoesOn old taken bytes → Adds taken mid more → Writes mid new → Stays old.now new.now
+ended_stays old taken mid new bytes more goes adds writes =
+    stays_on old.now taken.now new.now goes.now (stays_on taken.now mid.now new.now (subst (Stays taken.now) (sym adds.now) (stays_so taken.now)) writes.now)

@@ -5,6 +5,7 @@ use Rattle.std.specs.List.{cons_option}
 use Rattle.std.proofs.lemmas.Grind.{flat_map-append}
 use Rattle.std.proofs.lemmas.List.Elements.{filter_map-append}
 use Rattle.std.specs.Io.KnownBytes.{Appends}
+use Rattle.std.proofs.KnownBytes.{Appends-nil, Appends-trans}
 use Rattle.srm_names.specs.Histories.{since}
 use Rattle.srm_names.proofs.Snoc.{since-snoc}
 use Rattle.srm_entries.specs.declared.entry.Entry.{Entry}
@@ -15,7 +16,7 @@ use Rattle.srm_record.specs.Calls.{line_of, lines_of, last_after}
 use Rattle.srm_frames.specs.Lines.{line_text, lines_text}
 use Rattle.srm_record.specs.Records.{record_text, record_of, last_of_record}
 use Rattle.srm_output.specs.Writing.{AppendsAllBut, AppendsFront}
-use Rattle.srm_record.specs.Writing.{FileView, HasText, HasRecord, Adds, Writes, WritesIf, Notes, NotesIn, IsWritten, sends, text_if, call_text, text_since_sending}
+use Rattle.srm_record.specs.Writing.{FileView, HasText, HasRecord, Stays, Adds, Writes, WritesIf, Notes, NotesIn, IsWritten, sends, text_if, call_text, text_since_sending}
 use Rattle.srm_record.specs.declared.record_file.TheConstants.{MOST_WAITING}
 use Rattle.srm_record.proofs.Snocs.{last_recorded-snoc}
 use Rattle.srm_output.proofs.Gathered.{none_of_all, front_of_none, front_of_some, front_of_more, all_but_on, front_on}
@@ -60,6 +61,7 @@ pub puts_none : (v : FileView) (bytes : List ℕ) → v.failed ≡ true → Adds
 puts_none v bytes failed = record {
   beginning = refl;
   first = refl;
+  now = refl;
   last = refl;
   text = λ text has. broken v v (text ++ bytes) failed refl (front_of_more v.first v.now text bytes has.front);
   works = λ fine. fine;
@@ -71,6 +73,7 @@ pub puts : (old new : FileView) (bytes : List ℕ) → new.beginning ≡ old.beg
 puts old new bytes beginning first last now failed waiting = record {
   beginning = beginning;
   first = first;
+  now = now;
   last = last;
   text = λ text has. record {
     whole = λ fine. (let x = has.whole (sym failed ∙ fine) in
@@ -91,6 +94,7 @@ pub breaks : (old new : FileView) (bytes : List ℕ) → new.beginning ≡ old.b
 breaks old new bytes beginning first last now failed = record {
   beginning = beginning;
   first = first;
+  now = now;
   last = last;
   text = λ text has. broken old new (text ++ bytes) failed first (subst (λ (b : Option (List ℕ)). AppendsFront old.first b (text ++ bytes)) (sym now) (front_of_more old.first old.now text bytes has.front));
   works = λ fine. clash new.failed failed fine;
@@ -107,11 +111,20 @@ pub wrote_front : (a b c : Option (List ℕ)) (text behind : List ℕ) → Appen
 wrote_front a b c text behind x y =
     subst (AppendsFront a c) (append-nil text) (front_on a b c text behind [] x (subst (AppendsFront b c) (sym (append-nil behind)) y))
 
+-- ---- what stands in the file stays
+
+pub stays_so : (a : Option (List ℕ)) → Stays a a
+stays_so a = ([], Appends-nil a)
+
+pub stays_on : (a b c : Option (List ℕ)) → Stays a b → Stays b c → Stays a c
+stays_on a b c (x, first) (y, second) = (x ++ y, Appends-trans a b c x y first second)
+
 -- what waits is written
 pub writes_none : (v : FileView) → v.failed ≡ true → Writes v v
 writes_none v failed = record {
   beginning = refl;
   first = refl;
+  now = stays_so v.now;
   last = refl;
   text = λ text has. has;
   works = λ fine. fine;
@@ -123,6 +136,7 @@ pub writes_all : (old new : FileView) → new.beginning ≡ old.beginning → ne
 writes_all old new beginning first last fine none wrote = record {
   beginning = beginning;
   first = first;
+  now = (wrote.front, wrote.output);
   last = last;
   text = λ text has. (
       let all = wrote_all old.first old.now new.now text old.waiting (has.whole fine) wrote in
@@ -140,6 +154,7 @@ pub writes_front : (old new : FileView) → new.beginning ≡ old.beginning → 
 writes_front old new beginning first last fine failed wrote = record {
   beginning = beginning;
   first = first;
+  now = (wrote.most.front, wrote.most.output);
   last = last;
   text = λ text has. broken old new text failed first (wrote_front old.first old.now new.now text old.waiting (has.whole fine) wrote);
   works = λ _. fine;

@@ -1,5 +1,5 @@
 -- The worked record of docs/RECORDS.md, by the definitions.
-use Rattle.std.specs.Prelude.{◌≡◌, ℕ, [], ◌∷◌, Some, refl}
+use Rattle.std.specs.Prelude.{◌≡◌, ℕ, [], ◌∷◌, ◌++◌, Some, refl}
 use Rattle.srm_names.specs.declared.page_msg.PageMsg.TheVariants as messages
 use Rattle.srm_names.specs.Names.{first_page}
 use Rattle.srm_codec.specs.declared.datagram.Datagram.TheVariants.{Data}
@@ -14,6 +14,7 @@ use Rattle.srm_frames.specs.Beginnings.{identity_fields, limit_fields, wait_fiel
 use Rattle.srm_frames.specs.Lines.{line_text, lines_text}
 use Rattle.srm_record.specs.Calls.{lines_of}
 use Rattle.srm_record.specs.Takes.{takes_at, end_at, lists_in}
+use Rattle.srm_record.specs.Writing.{Stays}
 
 abbrev began : Beginning
 began = record { config = record (in_roster 0 2 4204) { session = 7 }; made = 5; seed = 9; wall = 1795811000000000 }
@@ -63,3 +64,10 @@ what_was_taken_again = refl
 the_end : line_text (end_at 50) ≡ 0x08 ∷ 0x00 ∷ 0x00 ∷ 0x00 ∷ 0x00 ∷ 0x00 ∷ 0x00 ∷ 0x00 ∷ 0x32 ∷ 0x00 ∷ 0x00 ∷ 0x00 ∷ 0x00 ∷ 0x8e ∷ 0x96 ∷ 0x7e ∷ 0x09 ∷ []
 unfolding after_byte crc_32 sealed frame_fields line_text
 the_end = refl
+
+-- what a file has taken stays where bytes come behind it, and doesn't where one of them goes
+it_grows : Stays (Some (0x53 ∷ [])) (Some (0x53 ∷ 0x52 ∷ []))
+it_grows = (0x52 ∷ [], refl)
+
+it_shrinks : Stays (Some (0x53 ∷ 0x52 ∷ [])) (Some (0x53 ∷ [])) → ⊥
+it_shrinks (more, is) = let gone : 0x53 ∷ [] ≡ 0x53 ∷ 0x52 ∷ more = is in absurd (cc)

@@ -1,5 +1,6 @@
 -- What a file got of a record, and what waits to be written.
 use Rattle.std.specs.Prelude.{◌≡◌, ℕ, ◌+◌, ◌<◌, ◌≤◌, Bool, true, false, not, List, [], ◌∷◌, ◌++◌, length, Option, Some, None, IfSome}
+use Rattle.std.specs.Io.KnownBytes.{Appends}
 use Rattle.srm_names.specs.Histories.{since}
 use Rattle.srm_output.specs.Writing.{AppendsAllBut, AppendsFront}
 use Rattle.srm_entries.specs.declared.entry.Entry.{Entry}
@@ -49,10 +50,15 @@ pub record HasRecord (v : FileView) (es : List Entry) : Type 0 where
   pub few : v.failed ≡ false → length v.waiting < MOST_WAITING
   pub last : v.last ≡ last_of_record v.beginning es
 
+-- what a file has taken stays there, in front of any more
+abbrev pub Stays : Option (List ℕ) → Option (List ℕ) → Type 0
+Stays old new = (more : List ℕ) × Appends old new more
+
 -- bytes stand behind those so far
 pub record Adds (old new : FileView) (bytes : List ℕ) : Type 0 where
   pub beginning : new.beginning ≡ old.beginning
   pub first : new.first ≡ old.first
+  pub now : new.now ≡ old.now
   pub last : new.last ≡ old.last
   pub text : (text : List ℕ) → HasText old text → HasText new (text ++ bytes)
   pub works : new.failed ≡ false → old.failed ≡ false
@@ -62,6 +68,7 @@ pub record Adds (old new : FileView) (bytes : List ℕ) : Type 0 where
 pub record GoesOn (old new : FileView) (bytes : List ℕ) : Type 0 where
   pub beginning : new.beginning ≡ old.beginning
   pub first : new.first ≡ old.first
+  pub now : Stays old.now new.now
   pub last : new.last ≡ old.last
   pub text : (text : List ℕ) → HasText old text → HasText new (text ++ bytes)
 
@@ -69,6 +76,7 @@ pub record GoesOn (old new : FileView) (bytes : List ℕ) : Type 0 where
 pub record Writes (old new : FileView) : Type 0 where
   pub beginning : new.beginning ≡ old.beginning
   pub first : new.first ≡ old.first
+  pub now : Stays old.now new.now
   pub last : new.last ≡ old.last
   pub text : (text : List ℕ) → HasText old text → HasText new text
   pub works : new.failed ≡ false → old.failed ≡ false

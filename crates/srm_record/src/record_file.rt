@@ -10,7 +10,7 @@ ghost use Rattle.srm_frames.specs.Lines.{line_text, lines_text};
 ghost use Rattle.srm_record.specs.Records.{whole_record};
 ghost use Rattle.srm_record.specs.Takes.{lent, take_at, slot_lines, takes_at, end_at};
 ghost use Rattle.srm_output.specs.Writing.{AppendsFront};
-ghost use Rattle.srm_record.specs.Writing.{HasText, HasRecord, Adds, GoesOn, Writes, WritesIf, Notes, call_text, sends};
+ghost use Rattle.srm_record.specs.Writing.{HasText, HasRecord, Stays, Adds, GoesOn, Writes, WritesIf, Notes, call_text, sends};
 
 use crate::framing::{put_call, put_end};
 use crate::telling::last_after;
@@ -171,6 +171,7 @@ impl<F: Write + Drop> RecordFile<F> {
         requires { length taken.now ≤ PAGES }
         ensures whole { result.0 ≡ true → (es : List AnEntry) → HasRecord self es → Appends self.first (F.contents result.1) (whole_record self.beginning es (lent taken.now)) }
         ensures front { (es : List AnEntry) → HasRecord self es → AppendsFront self.first (F.contents result.1) (whole_record self.beginning es (lent taken.now)) }
+        ensures stays { Stays self.now (F.contents result.1) }
     {
         let mut file = self;
         file.put_takes(taken);

@@ -6,7 +6,7 @@ ghost use Rattle.srm_names.specs.declared.limits.TheConstants.{PAGES};
 ghost use Rattle.srm_record.specs.Records.{whole_record};
 ghost use Rattle.srm_record.specs.Takes.{lent};
 ghost use Rattle.srm_output.specs.Writing.{AppendsFront};
-ghost use Rattle.srm_record.specs.Writing.{IsWritten, NotesIn};
+ghost use Rattle.srm_record.specs.Writing.{IsWritten, NotesIn, Stays};
 
 use crate::record_file::RecordFile;
 use srm_entries::Entry;
@@ -72,12 +72,13 @@ impl<F: Write + Drop, P: Past<Entry> + Drop> Written<F, P> {
         let _ = &self.past;
     }
 
-    /// Writes what the page workers took, slot by slot, and that this is all. Returns the file and the history.
+    /// Writes what the page workers took, slot by slot, and that this is all. Returns the file and the history. What stood in the file stays, also if writing fails.
     pub fn end(self, taken: &[&[PageMsg]]) -> Ended<F, P>
         requires { length taken.now ≤ PAGES }
         ensures past { result.past ≡ self.past }
         ensures whole { result.whole ≡ true → MatchOption self.file (result.file ≡ None) (λ v. IsSomeAnd result.file (λ f. Appends v.first (F.contents f) (whole_record v.beginning self.entries (lent taken.now)))) }
         ensures front { MatchOption self.file (result.file ≡ None) (λ v. IsSomeAnd result.file (λ f. AppendsFront v.first (F.contents f) (whole_record v.beginning self.entries (lent taken.now)))) }
+        ensures stays { MatchOption self.file (result.file ≡ None) (λ v. IsSomeAnd result.file (λ f. Stays v.now (F.contents f))) }
     {
         let Written { past, file } = self;
         match file {
