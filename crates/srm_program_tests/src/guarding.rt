@@ -1,9 +1,10 @@
-//! What a live member's guard drops.
+//! What a member's guard drops, and what a live member tells as missing.
 
 use crate::inputs::Input;
 use crate::lives::*;
 use crate::rig::{bound, options_of};
 use mio::net::UdpSocket;
+use srm_rig::datagrams::{Kind, word};
 use std::io::{ErrorKind, Read};
 use std::net::{Net, SocketAddr};
 use std::process::Abort;
@@ -32,7 +33,7 @@ const FORGED: &[u8] = &[
 ];
 
 /// A session message of member 0 that tells of the member's stroke 3 on the first page, and one that tells of stroke 5.
-const THREE: &[u8] = &[
+pub(crate) const THREE: &[u8] = &[
     0x53, 0x52, 1, 4, 0, 0, 0, 7, 0, 0, 0, 0, 0, 0, 0, 0, 0, 0, 0, 0, 0, 1, // message
     0, 0, 0, 0, 0, 0, 0, 3, 0, // row, and no echo
 ];
@@ -45,6 +46,13 @@ const FIVE: &[u8] = &[
 const FOUR: &[u8] = &[
     0x53, 0x52, 1, 4, 0, 0, 0, 7, 0, 0, 0, 0, 0, 0, 0, 0, 0, 0, 0, 0, 0, 1, // message
     0, 0, 0, 0, 0, 0, 0, 4, 0, // row, and no echo
+];
+
+/// A session message of member 0 that tells of its stroke 5 on page 0.0, and of its stroke 2 on page 3.7.
+const TWO_PAGES: &[u8] = &[
+    0x53, 0x52, 1, 4, 0, 0, 0, 7, 0, 0, 0, 0, 0, 0, 0, 0, 0, 0, 0, 0, 0, 2, // message
+    0, 0, 0, 0, 0, 0, 0, 5, // row
+    0, 3, 0, 7, 0, 0, 0, 2, 0, // row, and no echo
 ];
 
 /// The first stroke of member 0 on the first page, `hi`.
@@ -123,7 +131,11 @@ impl<R: Wait + Drop> Read for Coming<R> {
 }
 
 /// Runs member 1 of two with these options while these datagrams come. Its status, and what it told.
-fn run_while<R>(rt: &R, words: &str, comes: &'static [Come]) -> Result<(u8, Written), Fail>
+pub(crate) fn run_while<R>(
+    rt: &R,
+    words: &str,
+    comes: &'static [Come],
+) -> Result<(u8, Written), Fail>
 where
     R: Net + Files + Clock + Threads + Wait + AllocGlobal + Copy + Send + Drop + 'static,
 {
@@ -279,4 +291,54 @@ fn what_would_make_too_much_missing_is_dropped(rt: HostRuntime) -> Result<(), Fa
         "srm: dropped: too much missing 1\n",
     ];
     assert_tells(&rt, " --most-missing 3", comes, &lines)
+}
+
+/// Waits until the member at this address was heard, for 20 seconds at most. Then sends it the fifth stroke, the fourth, and the three before these.
+fn send_backwards<R: Clock + Wait>(rt: &R, socket: &UdpSocket, to: SocketAddr) {
+    let mut buffer = [0; 4_096];
+    for _ in 0..4_000 {
+        if socket.recv_from(&mut buffer).is_ok() {
+            for number in [5, 4, 1, 2, 3] {
+                let _ = socket.send_to(&word(Kind::Data, 0, 0, 0, number), to);
+            }
+            return;
+        }
+        thread::sleep(rt, Duration::from_micros(5_000));
+    }
+}
+
+// The fifth stroke would make it miss four, the fourth makes it miss three. With a greater limit it would take the fifth too, with a smaller one it would drop the fourth.
+#[test]
+fn a_member_that_is_not_live_has_the_limit_of_its_line(rt: HostRuntime) -> Result<(), Fail> {
+    let (socket, first) = bound(&rt)?;
+    let (own, to) = bound(&rt)?;
+    drop(own);
+    let sending = thread::spawn(&rt, move || send_backwards(&rt, &socket, to))?;
+    let line = format!(in rt.alloc();
+        "--session 7 --me 1 --stay 4000000 --most-missing 3 {first} {to}"
+    )?;
+    let ran = crate::rig::run(&rt, line.as_str(), b"one\n")?;
+    sending.join(&rt);
+    assert_eq!(rt; ran.status, 0);
+    let printed = str::from_utf8(ran.out.as_slice()).unwrap_or("");
+    assert!(rt; printed.contains("took 1 0 draw 0 4 hi\n"), "{printed}");
+    assert!(rt; !printed.contains("took 1 0 draw 0 5 hi\n"), "{printed}");
+    Ok(())
+}
+
+// The stroke that comes is no longer missing, on its own page alone.
+#[test]
+fn what_is_missing_is_told_by_page(rt: HostRuntime) -> Result<(), Fail> {
+    let comes = &[
+        Come::Known(TWO_PAGES),
+        Come::Known(FIRST),
+        Come::Await("took 1 0 draw 0 1 hi\n"),
+    ];
+    let lines = [
+        HERE,
+        NOT_LEFT,
+        "srm: missing 4 of member 0 on page 0.0\n",
+        "srm: missing 2 of member 0 on page 3.7\n",
+    ];
+    assert_tells(&rt, " --linger 0", comes, &lines)
 }

@@ -1,6 +1,7 @@
 //! Members that write their records, and what `srm audit` says of these.
 
 use crate::example::run_owned;
+use crate::guarding::{Come, THREE, run_while};
 use crate::inputs::Input;
 use crate::lives::{GIVEN, Written, has, keep_in, output_in, run_member, streams};
 use crate::relay::{Relay, stops_before};
@@ -22,7 +23,7 @@ use std::thread::Threads;
 use std::time::Clock;
 use std::{env, fs, io, thread};
 
-/// The seed of each of the three members, 65,541, as its record has it: eight bytes from byte 27 on.
+/// The seed 65,541 as a member's record has it: eight bytes from byte 27 on.
 const SEED: [u8; 8] = [0, 0, 0, 0, 0, 1, 0, 5];
 
 /// A path where no file is, of the system's folder for such files. The port is one that nobody else has.
@@ -210,7 +211,7 @@ where
     let alloc = rt.alloc();
     let port = free_port(rt)?;
     let line = format!(in alloc;
-        "--session 7 --me 0 --live --stay 0 --record {path} 127.0.0.1:{port}"
+        "--session 7 --me 0 --live --start 65541 --stay 0 --record {path} 127.0.0.1:{port}"
     )?;
     let options = options_of(alloc, line.as_str()).ok_or("options")?;
     let (out, err) = streams(alloc, false)?;
@@ -228,10 +229,24 @@ fn a_live_member_writes_its_record(rt: HostRuntime) -> Result<(), Fail> {
     let out = played(&rt, &["--script", path.as_str()])?;
     let text = str::from_utf8(out.as_slice()).unwrap_or("");
     assert!(rt; text.contains("took 0 0 draw 0 1 hi\n"), "{text}");
+    let record = fs::read(&rt, path.as_str())?;
+    assert_eq!(rt; record.get(27..35), Some(SEED.as_slice()));
     // The second run finds the file of the first.
     let (status, told) = run_live_alone(&rt, path.as_str())?;
     assert_eq!(rt; status, 1);
     assert!(rt; has(&rt, &told, "srm: record\n"));
+    fs::remove_file(&rt, path.as_str())?;
+    Ok(())
+}
+
+// It asks for three strokes when its random numbers say so. With nearly every other seed its record is of no run, and the status is 6. Without the other member's record it is 7.
+#[test]
+fn a_live_member_asks_by_the_seed_of_its_record(rt: HostRuntime) -> Result<(), Fail> {
+    let path = new_path(&rt, 1, free_port(&rt)?)?;
+    let words = format!(in rt.alloc(); " --linger 0 --start 65541 --record {}", path.as_str())?;
+    let (status, _) = run_while(&rt, words.as_str(), &[Come::Known(THREE)])?;
+    assert_eq!(rt; status, 0);
+    assert_eq!(rt; audited(&rt, &[path.as_str()]).status, 7);
     fs::remove_file(&rt, path.as_str())?;
     Ok(())
 }

@@ -4,7 +4,9 @@ use crate::inputs::Input;
 use crate::lives::*;
 use crate::rig::{bound, options_of};
 use mio::net::UdpSocket;
+use srm_live::{Dropped, Tally};
 use srm_rig::datagrams::{Kind, requests, word};
+use srm_udp::Losses;
 use std::alloc::Global;
 use std::io;
 use std::io::{ErrorKind, Read};
@@ -63,7 +65,7 @@ fn a_terminal_s_title_shows_what_goes_on(rt: HostRuntime) -> Result<(), Fail> {
     Ok(())
 }
 
-// No socket that didn't ask for it may send to all members of a network. The second line comes once the terminal shows what the first one met.
+// Nothing comes, and what is lost was sent. No socket that didn't ask for it may send to all members of a network. The second line comes once the terminal shows what the first one met.
 #[test]
 fn a_terminal_is_shown_that_something_was_lost(rt: HostRuntime) -> Result<(), Fail> {
     let given = Given {
@@ -76,8 +78,36 @@ fn a_terminal_is_shown_that_something_was_lost(rt: HostRuntime) -> Result<(), Fa
     assert_eq!(rt; status, 0);
     assert!(rt; has(&rt, &terminal, given.awaited));
     assert!(rt; !has(&rt, &terminal, "lost 0"));
+    assert!(rt; has(&rt, &terminal, "srm 0/1, missing 0, in 0, out "));
+    assert!(rt; !has(&rt, &terminal, "out 0"));
     assert!(rt; has(&rt, &terminal, "srm: lost on the way out: denied "));
     assert!(rt; ends_with(&rt, &terminal, "gone 0\n"));
+    Ok(())
+}
+
+#[test]
+fn what_is_missing_lost_and_dropped_stands_behind_its_word(rt: HostRuntime) -> Result<(), Fail> {
+    let tally = Tally::new(rt.alloc())?;
+    tally.show_missing(70);
+    tally.count_came();
+    tally.show_lost(Losses {
+        no_way: 11,
+        denied: 12,
+        too_long: 13,
+        no_room: 14,
+        port_closed: 15,
+    });
+    tally.show_dropped(Dropped {
+        strangers: 21,
+        untagged: 22,
+        excess: 23,
+        overflowed: 24,
+    });
+    let line = format!(in rt.alloc(); "{}", tally.activity(9))?;
+    assert_eq!(rt;
+        line.as_str(),
+        "srm: heard 0 of 9, missing 70, sent 0, came 1, asked 0, repaired 0, ignored 0, noise 0, lost: no way there 11, denied 12, too long 13, no room 14, port closed 15, dropped: outside the roster 21, no right tag 22, too much missing 23, queue full 24"
+    );
     Ok(())
 }
 
