@@ -1,0 +1,285 @@
+"""Programs that `rt try` compiles with checks and that no proof covers: compiles one once for a text, and keeps it.
+
+    import checked
+    words = checked.program("crates/srm_main")      # subprocess.run([*words, "world"], ..) runs it
+    words = checked.tests("crates/srm_rota")        # the same of its #[test] functions
+
+Both return words that run what was compiled: in the caller's folder, with the caller's streams and environment, and with the words that follow as its arguments. The
+folder is a crate's, in any repository: the folder two above it has crates.txt. What is kept stands in out/checked at the repository's top, or in the folder `kept`, and
+is compiled anew where the crate's text differs, that of a crate below it, or the kit's `rt`. While one call compiles, others that want the same wait for it.
+
+Both raise Unready, whose text is a line that says what happened and what to do, and whose status is that of ./srm; `said` is what rt printed. A caller that is to be
+interrupted turns signals into exceptions: then what runs here is ended, and the next call begins anew. Standard error tells what goes on, each line behind `who`."""
+import contextlib
+import fcntl
+import hashlib
+import json
+import os
+import re
+import resource
+import shutil
+import signal
+import subprocess
+import sys
+import tempfile
+import time
+from pathlib import Path
+
+PARTS = ("src", "specs", "c")
+# What it takes to compile the whole program, in bytes.
+MEMORY = 6_000_000_000
+# So much is free on a disk that isn't full.
+ROOM = 1_000_000
+# The program is run so many times with nothing to read, so that one of these runs is seen.
+RUNS = 200
+# The words of the check beside a try, behind the prover's path. It tells who writes code about reserved names, and takes a processor for as long as the try does.
+HINTS = re.compile(rb"[^\0]*/rattle\0check\0(?:.*\0)?--start\0no function\0", re.S)
+NO_RT, REFUSED, NOT_NOW = 127, 70, 75
+
+
+class Unready(Exception):
+    """Why there is nothing to run."""
+
+    def __init__(self, status, why, said=""):
+        super().__init__(why)
+        self.status, self.said = status, said
+
+
+def program(folder, **how):
+    """The words that run a crate's program. `kept`, `memory` and `who` say where it is kept, how many bytes it takes to compile it, and who tells what goes on."""
+    return Crate(folder, [], **how).ready()
+
+
+def tests(folder, **how):
+    """The words that run a crate's tests."""
+    return Crate(folder, ["--test"], **how).ready()
+
+
+def is_kept(folder, **how):
+    """Whether a crate's program is there, and of the text as it stands."""
+    return Crate(folder, [], **how).words() is not None
+
+
+def read_crates(top):
+    """The lines of crates.txt, by crate."""
+    found = {}
+    for line in (top / "crates.txt").read_text().splitlines():
+        head, colon, _ = line.partition("#")[0].partition(":")
+        if colon:
+            found[head.split()[0]] = line.partition("#")[0]
+    return found
+
+
+def crates_below(lines, name):
+    """A crate, and those of the repository that it stands on."""
+    found = [name]
+    for crate in found:
+        found += [it for it in lines[crate].partition(":")[2].split() if it in lines and it not in found]
+    return sorted(found)
+
+
+def kit():
+    """What tells the kit from others."""
+    rt = shutil.which("rt")
+    if not rt:
+        raise Unready(NO_RT, "there is no rt on the path: install the Rattle kit, and put its folder bin on PATH")
+    file = Path(rt).resolve()
+    named = file.parent.parent / "KIT-ID"
+    told = file.stat()
+    return f"{file} {told.st_size} {told.st_mtime_ns} {named.read_text() if named.exists() else ''}"
+
+
+def text_of(top, name):
+    """The sum of all that decides what is compiled: the texts of a crate and of those below it, their lines of crates.txt, and the kit."""
+    lines = read_crates(top)
+    if name not in lines:
+        raise Unready(REFUSED, f"crates.txt has no crate {name}")
+    found = hashlib.sha256(kit().encode())
+    for crate in crates_below(lines, name):
+        found.update(f"\n{lines[crate]}\n".encode())
+        for file in sorted(it for part in PARTS for it in (top / "crates" / crate / part).rglob("*")):
+            if file.is_file():
+                text = file.read_bytes()
+                found.update(f"\n{file.relative_to(top)} {len(text)}\n".encode())
+                found.update(text)
+    return found.hexdigest()[:16]
+
+
+def free_memory():
+    """What can be taken without that something else is ended, in bytes; SRM_MEMINFO names another file than the system's."""
+    told = Path(os.environ.get("SRM_MEMINFO", "/proc/meminfo")).read_text()
+    limit = resource.getrlimit(resource.RLIMIT_AS)[0]
+    free = 1024 * sum(int(re.search(rf"^{it}:\s+(\d+)", told, re.M)[1]) for it in ("MemAvailable", "SwapFree"))
+    return free if limit == resource.RLIM_INFINITY else min(free, limit)
+
+
+class Shown:
+    """What standard error says. On a terminal a line counts the seconds, and is written over."""
+
+    def __init__(self, who):
+        self.who, self.begun, self.is_terminal = who, time.monotonic(), sys.stderr.isatty()
+
+    def tell(self, text):
+        self.clear()
+        # Where standard error is closed, the work goes on.
+        with contextlib.suppress(OSError):
+            print(f"{self.who}: {text}", file=sys.stderr, flush=True)
+
+    def begin(self, text):
+        self.begun, self.text = time.monotonic(), text
+        if not self.is_terminal:
+            self.tell(text)
+
+    def count(self):
+        if self.is_terminal:
+            line = f"{self.who}: {self.text}: {time.monotonic() - self.begun:.0f} s"
+            print(f"\r\033[K{line[: shutil.get_terminal_size().columns - 1]}", end="", file=sys.stderr, flush=True)
+
+    def clear(self):
+        if self.is_terminal:
+            print("\r\033[K", end="", file=sys.stderr, flush=True)
+
+
+class Crate:
+    """A crate whose program, or whose tests, are to be run."""
+
+    def __init__(self, folder, flags, kept=None, memory=MEMORY, who="srm"):
+        self.folder, self.flags, self.memory, self.shown = Path(folder).resolve(), flags, memory, Shown(who)
+        top = self.folder.parent.parent
+        self.name = self.folder.name
+        self.text = text_of(top, self.name)
+        self.all_kept = Path(kept).resolve() if kept else top / "out" / "checked"
+        self.prefix = f"{self.name}.tests-" if flags else f"{self.name}-"
+        self.kept = self.all_kept / f"{self.prefix}{self.text}"
+
+    def words(self):
+        """The words that run it, where it is kept."""
+        try:
+            return [*json.loads((self.kept / "starter").read_text()), str(self.kept / self.name)]
+        except FileNotFoundError:
+            return None
+
+    def ready(self):
+        """The words that run it, once it is kept."""
+        found = self.words()
+        if found:
+            return found
+        try:
+            self.all_kept.mkdir(parents=True, exist_ok=True)
+            with self.locked():
+                if not self.words():
+                    self.compile()
+        except OSError as error:
+            raise self.not_now(f"can't keep {self.name} in {self.all_kept}: {error.strerror}") from error
+        return self.words()
+
+    @contextlib.contextmanager
+    def locked(self):
+        """Keeps other calls from compiling the same. The system frees the lock of a process that ends, however it ends."""
+        with open(self.all_kept / f"{self.prefix[:-1]}.lock", "wb") as file:
+            try:
+                fcntl.flock(file, fcntl.LOCK_EX | fcntl.LOCK_NB)
+            except BlockingIOError:
+                self.shown.tell(f"another call compiles {self.name}, and this one waits for it")
+                fcntl.flock(file, fcntl.LOCK_EX)
+            yield
+
+    def compile(self):
+        """Compiles it beside what is kept, and keeps it whole."""
+        free = free_memory()
+        if free < self.memory:
+            why = f"compiling {self.name} takes {self.memory / 1e9:.0f} GB of memory, and {free / 1e9:.1f} GB are free: end other programs, and run this again"
+            raise Unready(NOT_NOW, why)
+        self.remove(f"{self.prefix}room-*")
+        self.shown.begin(f"compiling {self.name} with checks, once for this text, which takes some minutes")
+        room = Path(tempfile.mkdtemp(prefix=f"{self.prefix}room-", dir=self.all_kept))
+        try:
+            self.compile_in(room)
+        except BaseException as error:
+            if not isinstance(error, (OSError, Unready)):
+                self.shown.tell(f"compiling {self.name} was interrupted; the next call begins anew")
+            raise
+        finally:
+            self.shown.clear()
+            shutil.rmtree(room, ignore_errors=True)
+
+    def compile_in(self, room):
+        """Compiles it in a folder, and moves it from there to where it is kept."""
+        ready = room / "ready"
+        ready.mkdir()
+        with open(room / "said", "w+b") as said:
+            with subprocess.Popen(self.command(room), cwd=self.folder, env={**os.environ, "TMPDIR": str(room)}, stdin=subprocess.DEVNULL, stdout=said, stderr=said) as tried:
+                try:
+                    starter = self.caught(tried, room, ready / self.name)
+                finally:
+                    # It ends what it began, and then itself.
+                    tried.terminate()
+            said.seek(0)
+            if starter is None:
+                raise self.refused(tried.returncode, said.read().decode(errors="replace"))
+        (ready / "starter").write_text(json.dumps(starter))
+        # Those of older texts. One that runs goes on.
+        self.remove(f"{self.prefix}*", room)
+        ready.rename(self.kept)
+
+    def remove(self, pattern, but=None):
+        for old in self.all_kept.glob(pattern):
+            if old != but:
+                shutil.rmtree(old, ignore_errors=True)
+
+    def command(self, room):
+        """The call of rt. A program runs once for each of some empty files, so long that it is seen; tests take their time."""
+        words = ["rt", "try", *self.flags, "--steps", "1", "--seconds", "60"]
+        if self.flags:
+            return words
+        (room / "cases").mkdir()
+        for number in range(RUNS):
+            (room / "cases" / f"{number:03}").touch()
+        return [*words, "--cases", str(room / "cases")]
+
+    def caught(self, tried, room, ready):
+        """Gives the program another name once rt runs it, and returns the words before it in its command line; nothing where rt ends before that."""
+        while tried.poll() is None:
+            self.shown.count()
+            for process in Path("/proc").glob("[0-9]*"):
+                with contextlib.suppress(OSError, ValueError):
+                    line = (process / "cmdline").read_bytes()
+                    if HINTS.match(line) and parent(process) == tried.pid:
+                        os.kill(int(process.name), signal.SIGTERM)
+                    starter = run_from(room, process, line)
+                    if starter is not None:
+                        os.link(os.fsdecode(starter.pop()), ready)
+                        return [os.fsdecode(it) for it in starter]
+            time.sleep(0.2)
+        return None
+
+    def refused(self, status, said):
+        """Why rt ended before it ran the program."""
+        free = shutil.disk_usage(self.all_kept).free
+        if "No space left on device" in said or free < ROOM:
+            return self.not_now(f"the disk of {self.all_kept} is full: free 1 GB there, and run this again")
+        if status == 1:
+            return Unready(REFUSED, f"{self.name} doesn't compile: the lines above say where", said)
+        return self.not_now(f"rt stopped before it had compiled {self.name}, with status {status}: the lines above say why; run this again", said)
+
+    @staticmethod
+    def not_now(why, said=""):
+        return Unready(NOT_NOW, why, said)
+
+
+def parent(process):
+    """The process that began one."""
+    return int((process / "stat").read_text(errors="replace").rpartition(")")[2].split()[1])
+
+
+def run_from(room, process, line):
+    """The words of a process up to the program that it runs, where this stands below a folder."""
+    place = os.fsencode(room) + b"/"
+    if place not in line:
+        return None
+    words = line.split(b"\0")
+    for at, word in enumerate(words):
+        # A linker has the same word, and doesn't run it.
+        if word.startswith(place) and re.search(rb" r-xp .* " + re.escape(word) + rb"\n", (process / "maps").read_bytes()):
+            return words[: at + 1]
+    return None
