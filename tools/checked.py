@@ -46,7 +46,7 @@ class Unready(Exception):
 
 
 def program(folder, **how):
-    """The words that run a crate's program. `kept`, `memory` and `who` say where it is kept, how many bytes it takes to compile it, and who tells what goes on."""
+    """The words that run a crate's program. `kept` says where it is kept, `memory` and `takes` how many bytes and how long it takes to compile it, `who` who tells of it."""
     return Crate(folder, [], **how).ready()
 
 
@@ -143,8 +143,8 @@ class Shown:
 class Crate:
     """A crate whose program, or whose tests, are to be run."""
 
-    def __init__(self, folder, flags, kept=None, memory=MEMORY, who="srm"):
-        self.folder, self.flags, self.memory, self.shown = Path(folder).resolve(), flags, memory, Shown(who)
+    def __init__(self, folder, flags, kept=None, memory=MEMORY, takes="three minutes", who="srm"):
+        self.folder, self.flags, self.memory, self.takes, self.shown = Path(folder).resolve(), flags, memory, takes, Shown(who)
         top = self.folder.parent.parent
         self.name = self.folder.name
         self.text = text_of(top, self.name)
@@ -156,7 +156,7 @@ class Crate:
         """The words that run it, where it is kept."""
         try:
             return [*json.loads((self.kept / "starter").read_text()), str(self.kept / self.name)]
-        except FileNotFoundError:
+        except OSError:
             return None
 
     def ready(self):
@@ -188,10 +188,9 @@ class Crate:
         """Compiles it beside what is kept, and keeps it whole."""
         free = free_memory()
         if free < self.memory:
-            why = f"compiling {self.name} takes {self.memory / 1e9:.0f} GB of memory, and {free / 1e9:.1f} GB are free: end other programs, and run this again"
-            raise Unready(NOT_NOW, why)
+            self.shown.tell(f"compiling {self.name} takes {self.memory / 1e9:.0f} GB of memory, and {free / 1e9:.1f} GB are free: it may fail; end other programs first")
         self.remove(f"{self.prefix}room-*")
-        self.shown.begin(f"compiling {self.name} with checks, once for this text, which takes some minutes")
+        self.shown.begin(f"compiling {self.name} with checks, once for this text, which takes about {self.takes}")
         room = Path(tempfile.mkdtemp(prefix=f"{self.prefix}room-", dir=self.all_kept))
         try:
             self.compile_in(room)
@@ -260,7 +259,7 @@ class Crate:
             return self.not_now(f"the disk of {self.all_kept} is full: free 1 GB there, and run this again")
         if status == 1:
             return Unready(REFUSED, f"{self.name} doesn't compile: the lines above say where", said)
-        return self.not_now(f"rt stopped before it had compiled {self.name}, with status {status}: the lines above say why; run this again", said)
+        return self.not_now(f"rt stopped before it had compiled {self.name}, which takes {self.memory / 1e9:.0f} GB of memory: the lines above say more; run this again", said)
 
     @staticmethod
     def not_now(why, said=""):
