@@ -16,6 +16,9 @@
  * All other calls go through, and so do all without REFUSE, and where N is 0. The file REFUSED, where it is named, is made once the N-th call was
  * met; so a run that leaves none had fewer. The file COUNTED, where it is named, has in the end how many calls of this kind there were. `nm -D` of a
  * program lists the calls that it makes.
+ *
+ * A program that was compiled with checks has its own allocator (AddressSanitizer's), which no preloaded one stands before. Each of the allocator's
+ * functions begins with a jump, and this leads the jumps here.
  */
 #define _GNU_SOURCE
 #include <dlfcn.h>
@@ -23,10 +26,12 @@
 #include <fcntl.h>
 #include <pthread.h>
 #include <stdatomic.h>
+#include <stdint.h>
 #include <stdlib.h>
 #include <string.h>
 #include <sys/epoll.h>
 #include <sys/ioctl.h>
+#include <sys/mman.h>
 #include <sys/socket.h>
 #include <sys/syscall.h>
 #include <time.h>
@@ -37,23 +42,20 @@ extern void *__libc_calloc(size_t, size_t);
 extern void *__libc_realloc(void *, size_t);
 extern void *__libc_memalign(size_t, size_t);
 
-/* The library's own calls, which those below stand before. */
-#define EACH(X)                                                                                                                                \
-    X(read) X(write) X(fsync) X(sendto) X(recvfrom) X(socket) X(bind) X(ioctl) X(epoll_create1) X(epoll_ctl) X(epoll_wait) X(clock_gettime)     \
-    X(pthread_create)
-#define DECLARE(name) static __typeof__(name) *real_##name;
-#define FIND(name) real_##name = (__typeof__(name) *)dlsym(RTLD_NEXT, #name);
-EACH(DECLARE)
-
 static const char *refused = ""; /* the kind */
 static size_t length;            /* of its name */
 static long first;
 static int for_ever;
 static atomic_long seen;
 
+static __typeof__(pthread_create) *start_thread; /* the library's own */
+
+static void lead_jumps(void);
+
 /* Before this nothing is counted: what the C library does as it starts is none of the program's. */
 __attribute__((constructor)) static void begin(void) {
-    EACH(FIND)
+    start_thread = (__typeof__(start_thread))dlsym(RTLD_NEXT, "pthread_create");
+    lead_jumps();
     const char *text = getenv("REFUSE");
     const char *colon = text ? strchr(text, ':') : NULL;
     if (!colon)
@@ -110,44 +112,96 @@ static int lacks_memory(void) { return fails("memory", ENOMEM); }
 /* A call that was to move one byte or none can't be short, so it isn't counted. */
 static size_t shortened(const char *kind, size_t count) { return count > 1 && is_refused(kind) ? 1 : count; }
 
-void *malloc(size_t size) { return lacks_memory() ? NULL : __libc_malloc(size); }
+/* What allocates: the C library, or a program's own allocator. */
+static __typeof__(malloc) *allocate = __libc_malloc;
+static __typeof__(calloc) *allocate_zeroes = __libc_calloc;
+static __typeof__(realloc) *allocate_anew = __libc_realloc;
+static __typeof__(aligned_alloc) *allocate_aligned = __libc_memalign;
 
-void *calloc(size_t count, size_t size) { return lacks_memory() ? NULL : __libc_calloc(count, size); }
+static void *refusing_malloc(size_t size) { return lacks_memory() ? NULL : allocate(size); }
 
-void *realloc(void *old, size_t size) { return lacks_memory() ? NULL : __libc_realloc(old, size); }
+static void *refusing_calloc(size_t count, size_t size) { return lacks_memory() ? NULL : allocate_zeroes(count, size); }
 
-void *aligned_alloc(size_t alignment, size_t size) { return lacks_memory() ? NULL : __libc_memalign(alignment, size); }
+static void *refusing_realloc(void *old, size_t size) { return lacks_memory() ? NULL : allocate_anew(old, size); }
 
-int posix_memalign(void **made, size_t alignment, size_t size) {
-    void *block = lacks_memory() ? NULL : __libc_memalign(alignment, size);
+static void *refusing_aligned_alloc(size_t alignment, size_t size) { return lacks_memory() ? NULL : allocate_aligned(alignment, size); }
+
+static int refusing_posix_memalign(void **made, size_t alignment, size_t size) {
+    void *block = refusing_aligned_alloc(alignment, size);
     if (!block)
         return ENOMEM;
     *made = block;
     return 0;
 }
 
+void *malloc(size_t size) { return refusing_malloc(size); }
+
+void *calloc(size_t count, size_t size) { return refusing_calloc(count, size); }
+
+void *realloc(void *old, size_t size) { return refusing_realloc(old, size); }
+
+void *aligned_alloc(size_t alignment, size_t size) { return refusing_aligned_alloc(alignment, size); }
+
+int posix_memalign(void **made, size_t alignment, size_t size) { return refusing_posix_memalign(made, alignment, size); }
+
+/* A jump of x86-64: this byte, and how far it goes from its end. */
+#define JUMP 0xe9
+#define JUMP_BYTES 5
+
+/* Leads the program's jump to one of its allocator's functions to this one. Where it led before; NULL in a program without its own allocator. */
+static void *lead_jump(const char *name, void *here) {
+    unsigned char *jump = dlsym(RTLD_DEFAULT, name);
+    Dl_info program, own;
+    if (!jump || *jump != JUMP || !dladdr(jump, &program) || !dladdr(here, &own) || program.dli_fbase == own.dli_fbase)
+        return NULL;
+    int32_t far, near;
+    memcpy(&far, jump + 1, sizeof far);
+    intptr_t way = (unsigned char *)here - (jump + JUMP_BYTES);
+    uintptr_t page = (uintptr_t)jump & -4096;
+    near = way;
+    if (near != way || mprotect((void *)page, 2 * 4096, PROT_READ | PROT_WRITE | PROT_EXEC))
+        abort();
+    memcpy(jump + 1, &near, sizeof near);
+    return jump + JUMP_BYTES + far;
+}
+
+static void lead_jumps(void) {
+#define LEAD(name, variable)                                                                                                                   \
+    {                                                                                                                                          \
+        void *own = lead_jump(#name, refusing_##name);                                                                                         \
+        variable = own ? (__typeof__(variable))own : variable;                                                                                 \
+    }
+    LEAD(malloc, allocate)
+    LEAD(calloc, allocate_zeroes)
+    LEAD(realloc, allocate_anew)
+    LEAD(aligned_alloc, allocate_aligned)
+    lead_jump("posix_memalign", refusing_posix_memalign);
+}
+
+/* The bare calls of the system. The allocator of a program compiled with checks makes some before anything here has begun, and mustn't cause a look-up. */
+
 ssize_t read(int file, void *bytes, size_t count) {
-    return fails("read", EIO) ? -1 : real_read(file, bytes, shortened("short-read", count));
+    return fails("read", EIO) ? -1 : syscall(SYS_read, file, bytes, shortened("short-read", count));
 }
 
 ssize_t write(int file, const void *bytes, size_t count) {
-    return fails("write", EIO) ? -1 : real_write(file, bytes, shortened("short-write", count));
+    return fails("write", EIO) ? -1 : syscall(SYS_write, file, bytes, shortened("short-write", count));
 }
 
-int fsync(int file) { return fails("sync", EIO) ? -1 : real_fsync(file); }
+int fsync(int file) { return fails("sync", EIO) ? -1 : syscall(SYS_fsync, file); }
 
 ssize_t sendto(int file, const void *bytes, size_t count, int flags, const struct sockaddr *to, socklen_t size) {
-    return fails("send", EIO) ? -1 : real_sendto(file, bytes, shortened("short-send", count), flags, to, size);
+    return fails("send", EIO) ? -1 : syscall(SYS_sendto, file, bytes, shortened("short-send", count), flags, to, size);
 }
 
 ssize_t recvfrom(int file, void *bytes, size_t count, int flags, struct sockaddr *from, socklen_t *size) {
-    return fails("receive", EIO) ? -1 : real_recvfrom(file, bytes, count, flags, from, size);
+    return fails("receive", EIO) ? -1 : syscall(SYS_recvfrom, file, bytes, count, flags, from, size);
 }
 
-int socket(int domain, int type, int protocol) { return fails("socket", EMFILE) ? -1 : real_socket(domain, type, protocol); }
+int socket(int domain, int type, int protocol) { return fails("socket", EMFILE) ? -1 : syscall(SYS_socket, domain, type, protocol); }
 
 int bind(int file, const struct sockaddr *address, socklen_t size) {
-    return fails("socket", EADDRINUSE) ? -1 : real_bind(file, address, size);
+    return fails("socket", EADDRINUSE) ? -1 : syscall(SYS_bind, file, address, size);
 }
 
 int ioctl(int file, unsigned long request, ...) {
@@ -155,21 +209,21 @@ int ioctl(int file, unsigned long request, ...) {
     __builtin_va_start(words, request);
     void *word = __builtin_va_arg(words, void *);
     __builtin_va_end(words);
-    return fails("socket", EIO) ? -1 : real_ioctl(file, request, word);
+    return fails("socket", EIO) ? -1 : syscall(SYS_ioctl, file, request, word);
 }
 
-int epoll_create1(int flags) { return fails("socket", EMFILE) ? -1 : real_epoll_create1(flags); }
+int epoll_create1(int flags) { return fails("socket", EMFILE) ? -1 : syscall(SYS_epoll_create1, flags); }
 
 int epoll_ctl(int poll, int what, int file, struct epoll_event *event) {
-    return fails("socket", ENOSPC) ? -1 : real_epoll_ctl(poll, what, file, event);
+    return fails("socket", ENOSPC) ? -1 : syscall(SYS_epoll_ctl, poll, what, file, event);
 }
 
 int epoll_wait(int poll, struct epoll_event *events, int count, int millis) {
-    return fails("poll", EINTR) ? -1 : real_epoll_wait(poll, events, count, millis);
+    return fails("poll", EINTR) ? -1 : syscall(SYS_epoll_wait, poll, events, count, millis);
 }
 
-int clock_gettime(clockid_t clock, struct timespec *time) { return fails("clock", EINVAL) ? -1 : real_clock_gettime(clock, time); }
+int clock_gettime(clockid_t clock, struct timespec *time) { return fails("clock", EINVAL) ? -1 : syscall(SYS_clock_gettime, clock, time); }
 
 int pthread_create(pthread_t *thread, const pthread_attr_t *how, void *(*start)(void *), void *with) {
-    return is_refused("thread") ? EAGAIN : real_pthread_create(thread, how, start, with);
+    return is_refused("thread") ? EAGAIN : start_thread(thread, how, start, with);
 }

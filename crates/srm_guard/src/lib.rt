@@ -21,8 +21,6 @@ mod hmac;
 mod key;
 mod known;
 mod limit;
-#[cfg(test)]
-mod tests;
 
 pub use dropped::Dropped;
 pub use guard::Guard;

@@ -15,7 +15,5 @@
 #![tactic(auto)]
 
 mod page_rota;
-#[cfg(test)]
-mod tests;
 
 pub use page_rota::PageRota;

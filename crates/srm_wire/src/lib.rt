@@ -21,8 +21,6 @@ mod mem_wire;
 mod network;
 mod sending;
 mod sent;
-#[cfg(test)]
-mod tests;
 mod wire;
 
 pub use clock::Clock;
