@@ -1,14 +1,14 @@
 #!/bin/sh
 # Builds capi/out/libsrm.a, libsrm.so.0 and srm.pc. The libraries define the names of srm.h and no others.
 #
-#   cd crates/srm_ffi && rt lib     # first: proves and builds what they are made of
-#   capi/build.sh                   # CC: the C compiler; PREFIX: where it is to be installed; KIT_C: the kit's folder of C libraries
+#   python3 tools/archive.py srm_ffi   # first: proves and builds what they are made of
+#   capi/build.sh                      # CC: the C compiler; PREFIX: where it is to be installed; KIT_C: the kit's folder of C libraries
 set -eu
 cd "$(dirname "$0")"
 : "${CC:=cc}" "${PREFIX:=/usr/local}"
 archive=../crates/srm_ffi/out/libsrm_ffi.a
 if [ ! -e "$archive" ]; then
-    echo "capi/build.sh: $archive isn't there: run \`rt lib\` in crates/srm_ffi" >&2
+    echo "capi/build.sh: $archive isn't there: run python3 tools/archive.py srm_ffi" >&2
     exit 1
 fi
 if [ -z "${KIT_C:-}" ]; then
