@@ -7,6 +7,7 @@
  * it hold and ask for anything: docs/EMBEDDING.md says what to put in front of it on an open network. */
 #include <arpa/inet.h>
 #include <err.h>
+#include <errno.h>
 #include <poll.h>
 #include <srm.h>
 #include <stdio.h>
@@ -107,19 +108,57 @@ static bool read_lines(void)
     return length > 0;
 }
 
-static void read_address(struct sockaddr_in *to, char *text)
+/* Ends the program, where its arguments are wrong. */
+static void refuse(const char *what, const char *why)
 {
-    char *host = strsep(&text, ":");
-    if (!text || inet_pton(AF_INET, host, &to->sin_addr) != 1)
-        errx(2, "%s: no IPv4 address and port", host);
-    to->sin_family = AF_INET;
-    to->sin_port = htons((uint16_t)atoi(text));
+    fprintf(stderr, "node: %s: %s\nusage: node SESSION ME STAY ADDRESS:PORT..\n", what, why);
+    exit(2);
 }
 
-static void join(char **addresses)
+/* The number that an argument is: digits alone, and at most so many. */
+static uint32_t number(const char *text, uint32_t most, const char *why)
 {
+    char *end;
+    errno = 0;
+    unsigned long long value = strtoull(text, &end, 10);
+    if (*text < '0' || *text > '9' || *end || errno || value > most)
+        refuse(text, why);
+    return (uint32_t)value;
+}
+
+static void read_address(struct sockaddr_in *to, const char *text)
+{
+    const char *port = strchr(text, ':');
+    char host[INET_ADDRSTRLEN] = "";
+    if (port && (size_t)(port - text) < sizeof host)
+        memcpy(host, text, (size_t)(port - text));
+    if (inet_pton(AF_INET, host, &to->sin_addr) != 1)
+        refuse(text, "no IPv4 address and port");
+    to->sin_family = AF_INET;
+    to->sin_port = htons((uint16_t)number(port + 1, UINT16_MAX, "no port from 1 to 65535"));
+    if (to->sin_port == 0)
+        refuse(text, "no port from 1 to 65535");
+}
+
+/* Returns for how many seconds the member stays. */
+static uint32_t read_arguments(int argc, char **argv)
+{
+    if (argc < 5)
+        refuse("arguments", "too few");
+    if (argc - 4 > SRM_MEMBERS_MAX)
+        refuse(argv[4 + SRM_MEMBERS_MAX], "one address too many: a session has 32 members at most");
+    srm_config_default(&config);
+    config.session = number(argv[1], UINT32_MAX, "no session from 0 to 4294967295");
+    config.members = (uint8_t)(argc - 4);
+    config.me = (uint8_t)number(argv[2], config.members - 1U, "no place in the list of addresses, from 0");
+    config.least_distance = 5000; /* members on one machine are so near that they would ask each millisecond */
     for (unsigned member = 0; member < config.members; member++)
-        read_address(&members[member], addresses[member]);
+        read_address(&members[member], argv[4 + member]);
+    return number(argv[3], UINT32_MAX, "no seconds from 0 to 4294967295");
+}
+
+static void join(void)
+{
     check(srm_agent_new(&agent, &config, now() ^ (uint64_t)getpid() << 32, now()), "join");
     udp = socket(AF_INET, SOCK_DGRAM, 0);
     if (udp < 0 || bind(udp, (struct sockaddr *)&members[config.me], sizeof members[config.me]))
@@ -128,19 +167,13 @@ static void join(char **addresses)
 
 int main(int argc, char **argv)
 {
-    if (argc < 5 || argc - 4 > SRM_MEMBERS_MAX || atoi(argv[2]) < 0 || atoi(argv[2]) >= argc - 4)
-        errx(2, "usage: node SESSION ME STAY ADDRESS:PORT..");
-    srm_config_default(&config);
-    config.session = (uint32_t)strtoul(argv[1], NULL, 10);
-    config.me = (uint8_t)atoi(argv[2]);
-    config.members = (uint8_t)(argc - 4);
-    config.least_distance = 5000; /* members on one machine are so near that they would ask each millisecond */
-    join(argv + 4);
+    uint64_t stay = read_arguments(argc, argv) * UINT64_C(1000000);
+    join();
     uint64_t leaves = SRM_NEVER; /* when it leaves, once its input ended */
     while (have || now() < leaves) {
         uint64_t draws = draw_lines();
         if (turn(have ? draws : leaves, leaves == SRM_NEVER && have < sizeof line) && !read_lines())
-            leaves = now() + strtoul(argv[3], NULL, 10) * 1000000;
+            leaves = now() + stay;
     }
     check(srm_agent_leave(agent, now()), "leave");
     while (srm_agent_state(agent) != SRM_GONE)

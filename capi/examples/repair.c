@@ -74,9 +74,13 @@ static void print(const srm_message *message)
     }
 }
 
-int main(void)
+int main(int argc, char **argv)
 {
     static const char *const strokes[] = {"a line", "a circle", "an arrow"};
+    if (argc > 1) {
+        fprintf(stderr, "repair: %s: it takes no argument\nusage: repair\n", argv[1]);
+        return 2;
+    }
     srm_agent *drawer = join(0), *listener = join(1);
     for (size_t i = 0; i < sizeof strokes / sizeof *strokes; i++)
         check(srm_agent_draw(drawer, SRM_FIRST_PAGE, strokes[i], strlen(strokes[i]), 0, NULL), "draw");

@@ -100,8 +100,12 @@ void print(const srm_message &message)
 
 } // namespace
 
-int main()
+int main(int argc, char **argv)
 {
+    if (argc > 1) {
+        std::cerr << "repair: " << argv[1] << ": it takes no argument\nusage: repair\n";
+        return 2;
+    }
     Agent drawer = join(0), listener = join(1);
     for (std::string_view stroke : {"a line", "a circle", "an arrow"})
         check(srm_agent_draw(drawer.get(), SRM_FIRST_PAGE, stroke.data(), stroke.size(), 0, nullptr));
