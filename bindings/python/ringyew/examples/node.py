@@ -6,14 +6,17 @@ It stays for STAY seconds after its input ended, so that others get what they mi
 on an open network."""
 
 import contextlib
+import ipaddress
 import os
+import re
 import select
 import socket
 import sys
 import time
 from collections import deque
+from typing import NamedTuple
 
-from ringyew import BODY_MAX, DATAGRAM_MAX, FIRST_PAGE, SLOTS, Agent, Draw, Left, Message, Open, State
+from ringyew import BODY_MAX, DATAGRAM_MAX, FIRST_PAGE, MEMBERS_MAX, SLOTS, Agent, Draw, Left, Message, Open, State
 
 
 def now() -> int:
@@ -69,21 +72,67 @@ def turn(agent: Agent, udp: socket.socket, others: list[tuple[str, int]], lines:
                 udp.sendto(datagram, other)
 
 
-def main(session: str, me: str, stay: str, *places: str) -> None:
-    addresses = [(host, int(port)) for host, port in (place.rsplit(":", 1) for place in places)]
-    own = addresses.pop(int(me))
+class Arguments(NamedTuple):
+    """What the arguments say."""
+
+    session: int
+    me: int
+    stay: int
+    addresses: list[tuple[str, int]]
+
+
+class WrongArgumentError(Exception):
+    """What is wrong with the arguments."""
+
+
+def number(word: str, most: int, why: str) -> int:
+    if not re.fullmatch("[0-9]{1,10}", word) or int(word) > most:
+        raise WrongArgumentError(f"{word}: {why}")
+    return int(word)
+
+
+def address(word: str) -> tuple[str, int]:
+    host, _, port = word.rpartition(":")
+    try:
+        ipaddress.IPv4Address(host)
+    except ValueError:
+        raise WrongArgumentError(f"{word}: no IPv4 address and port") from None
+    if number(port, 65535, "no port from 1 to 65535") == 0:
+        raise WrongArgumentError(f"{word}: no port from 1 to 65535")
+    return host, int(port)
+
+
+def read(words: list[str]) -> Arguments:
+    """Reads the arguments, or raises what is wrong with them."""
+    if len(words) < 4:
+        raise WrongArgumentError("arguments: too few")
+    session, me, stay, *places = words
+    if len(places) > MEMBERS_MAX:
+        raise WrongArgumentError(f"{places[MEMBERS_MAX]}: one address too many: a session has {MEMBERS_MAX} members at most")
+    return Arguments(
+        session=number(session, 2**32 - 1, "no session from 0 to 4294967295"),
+        me=number(me, len(places) - 1, "no place in the list of addresses, from 0"),
+        stay=number(stay, 2**32 - 1, "no seconds from 0 to 4294967295"),
+        addresses=[address(place) for place in places],
+    )
+
+
+def main(arguments: Arguments) -> None:
+    session, me, stay, addresses = arguments
+    members = len(addresses)
+    own = addresses.pop(me)
     seed = int.from_bytes(os.urandom(8))
     lines, leaves = Input(), None
     # Members on one machine are so near that they would ask each millisecond, hence the floor.
     with (
         socket.socket(socket.AF_INET, socket.SOCK_DGRAM) as udp,
-        Agent(me=int(me), members=len(places), session=int(session), seed=seed, now=now(), least_distance=5000) as agent,
+        Agent(me=me, members=members, session=session, seed=seed, now=now(), least_distance=5000) as agent,
     ):
         udp.bind(own)
         udp.setblocking(False)
         while agent.state is not State.GONE:
             if not lines.is_open and leaves is None:
-                leaves = now() + int(stay) * 1_000_000
+                leaves = now() + stay * 1_000_000
             if leaves is not None and not lines.lines and now() >= leaves and agent.state is State.ACTIVE:
                 agent.leave(now())
             wake = agent.admits_from(len(lines.lines[0])) if lines.lines else leaves
@@ -95,6 +144,9 @@ def main(session: str, me: str, stay: str, *places: str) -> None:
 
 
 if __name__ == "__main__":
-    if len(sys.argv) < 5:
-        sys.exit("usage: node.py SESSION ME STAY ADDRESS:PORT..")
-    main(*sys.argv[1:])
+    try:
+        wanted = read(sys.argv[1:])
+    except WrongArgumentError as why:
+        print(f"node.py: {why}", "usage: node.py SESSION ME STAY ADDRESS:PORT..", sep="\n", file=sys.stderr)
+        sys.exit(2)
+    main(wanted)

@@ -3,6 +3,8 @@
 The program is the network too. One of your own sends what a tick leaves to all others.
 """
 
+import sys
+
 from ringyew import Agent, Close, Draw, Left, Message, Open
 
 END = 900_000
@@ -55,4 +57,7 @@ def main() -> None:
             print("given", told(message))
 
 
+if len(sys.argv) > 1:
+    print(f"repair.py: {sys.argv[1]}: it takes no argument", "usage: repair.py", sep="\n", file=sys.stderr)
+    sys.exit(2)
 main()

@@ -5,10 +5,12 @@
 //! It stays for STAY seconds after its input ended, so that others get what they miss, and then leaves. docs/EMBEDDING.md says what to put in front of it
 //! on an open network.
 
-use ringyew::{Agent, Config, DATAGRAM_MAX, Message, Page, SLOTS, State};
+use ringyew::{Agent, Config, DATAGRAM_MAX, MEMBERS_MAX, Message, Page, SLOTS, State};
+use std::env::args_os;
 use std::error::Error;
 use std::io::{BufRead, stdin};
 use std::net::{SocketAddr, UdpSocket};
+use std::process::exit;
 use std::sync::mpsc::{Receiver, SyncSender, channel, sync_channel};
 use std::thread;
 use std::time::{Duration, Instant, SystemTime};
@@ -59,16 +61,55 @@ fn print_given(agent: &mut Agent, me: u8) -> Result<(), ringyew::Error> {
     Ok(())
 }
 
-fn main() -> Result<(), Box<dyn Error>> {
-    let words: Vec<String> = std::env::args().skip(1).collect();
-    let [session, me, stay, places @ ..] = &words[..] else {
-        return Err("usage: node SESSION ME STAY ADDRESS:PORT..".into());
+/// What the arguments say.
+struct Arguments {
+    session: u32,
+    me: u8,
+    stay: Duration,
+    addresses: Vec<SocketAddr>,
+    own: SocketAddr,
+}
+
+fn number(word: &str, most: u32, why: &str) -> Result<u32, String> {
+    let digits = word.bytes().all(|byte| byte.is_ascii_digit());
+    word.parse().ok().filter(|number| digits && *number <= most).ok_or_else(|| format!("{word}: {why}"))
+}
+
+fn address(word: &String) -> Result<SocketAddr, String> {
+    word.parse().ok().filter(|address: &SocketAddr| address.port() != 0).ok_or_else(|| format!("{word}: no IP address and port from 1 to 65535"))
+}
+
+/// Reads the arguments, or says what is wrong with them.
+fn read(words: &[String]) -> Result<Arguments, String> {
+    let [session, me, stay, places @ ..] = words else {
+        return Err("arguments: too few".into());
     };
-    let addresses = places.iter().map(|place| place.parse()).collect::<Result<Vec<SocketAddr>, _>>()?;
-    let (me, stay) = (me.parse::<u8>()?, Duration::from_secs(stay.parse()?));
-    let own = *addresses.get(usize::from(me)).ok_or("ME has no address")?;
+    if let Some(place) = places.get(usize::from(MEMBERS_MAX)) {
+        return Err(format!("{place}: one address too many: a session has {MEMBERS_MAX} members at most"));
+    }
+    let addresses = places.iter().map(address).collect::<Result<Vec<_>, _>>()?;
+    let session = number(session, u32::MAX, "no session from 0 to 4294967295")?;
+    let place = number(me, u8::MAX.into(), "no place in the list of addresses, from 0")?;
+    let own = *addresses.get(place as usize).ok_or_else(|| format!("{me}: no place in the list of addresses, from 0"))?;
+    let stay = number(stay, u32::MAX, "no seconds from 0 to 4294967295")?;
+    Ok(Arguments { session, me: place as u8, stay: Duration::from_secs(stay.into()), addresses, own })
+}
+
+fn main() -> Result<(), Box<dyn Error>> {
+    let words: Vec<String> = args_os().skip(1).map(|word| word.to_string_lossy().into_owned()).collect();
+    match read(&words) {
+        Ok(arguments) => run(arguments),
+        Err(why) => {
+            eprintln!("node: {why}\nusage: node SESSION ME STAY ADDRESS:PORT..");
+            exit(2)
+        }
+    }
+}
+
+fn run(arguments: Arguments) -> Result<(), Box<dyn Error>> {
+    let Arguments { session, me, stay, addresses, own } = arguments;
     // Members on one machine are so near that they would ask each millisecond, hence the floor.
-    let config = Config { least_distance: 5_000, ..Config::new(me, addresses.len() as u8, session.parse()?) };
+    let config = Config { least_distance: 5_000, ..Config::new(me, addresses.len() as u8, session) };
     let begun = Instant::now();
     let seed = SystemTime::UNIX_EPOCH.elapsed()?.as_nanos() as u64;
     let mut agent = Agent::new(&config, seed ^ u64::from(me) << 56, now(begun))?;

@@ -3,11 +3,17 @@
 //! The program is the network too. One of your own sends what a tick leaves to all others.
 
 use ringyew::{Agent, Config, Error, Message, Page};
+use std::env::args_os;
+use std::process::exit;
 
 /// The last moment, in microseconds: by then what was lost is repaired.
 const END: u64 = 900_000;
 
 fn main() -> Result<(), Error> {
+    if let Some(word) = args_os().nth(1) {
+        eprintln!("repair: {}: it takes no argument\nusage: repair", word.to_string_lossy());
+        exit(2)
+    }
     let mut drawer = Agent::new(&Config::new(0, 2, 7), 0, 0)?;
     let mut listener = Agent::new(&Config::new(1, 2, 7), 1, 0)?;
     for stroke in ["a line", "a circle", "an arrow"] {
