@@ -27,7 +27,7 @@ from pathlib import Path
 
 PARTS = ("src", "specs", "c")
 # What it takes to compile the whole program, in bytes.
-MEMORY = 6_000_000_000
+MEMORY = 6_300_000_000
 # So much is free on a disk that isn't full.
 ROOM = 1_000_000
 # The program is run so many times with nothing to read, so that one of these runs is seen.
