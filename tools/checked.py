@@ -145,10 +145,9 @@ class Crate:
 
     def __init__(self, folder, flags, kept=None, memory=MEMORY, takes="three minutes", who="srm"):
         self.folder, self.flags, self.memory, self.takes, self.shown = Path(folder).resolve(), flags, memory, takes, Shown(who)
-        top = self.folder.parent.parent
-        self.name = self.folder.name
-        self.text = text_of(top, self.name)
-        self.all_kept = Path(kept).resolve() if kept else top / "out" / "checked"
+        self.top, self.name = self.folder.parent.parent, self.folder.name
+        self.text = text_of(self.top, self.name)
+        self.all_kept = Path(kept).resolve() if kept else self.top / "out" / "checked"
         self.prefix = f"{self.name}.tests-" if flags else f"{self.name}-"
         self.kept = self.all_kept / f"{self.prefix}{self.text}"
 
@@ -175,14 +174,23 @@ class Crate:
 
     @contextlib.contextmanager
     def locked(self):
-        """Keeps other calls from compiling the same. The system frees the lock of a process that ends, however it ends."""
-        with open(self.all_kept / f"{self.prefix[:-1]}.lock", "wb") as file:
+        """Keeps other calls from compiling the same. The system frees the lock of a process that ends, however it ends. The file has the text that doesn't compile, so that
+        those who waited don't try it again."""
+        with open(self.all_kept / f"{self.prefix[:-1]}.lock", "a+", encoding="utf-8") as file:
             try:
                 fcntl.flock(file, fcntl.LOCK_EX | fcntl.LOCK_NB)
             except BlockingIOError:
                 self.shown.tell(f"another call compiles {self.name}, and this one waits for it")
                 fcntl.flock(file, fcntl.LOCK_EX)
-            yield
+                file.seek(0)
+                if file.read() == self.text:
+                    raise Unready(REFUSED, f"{self.name} doesn't compile: the call that this one waited for says where") from None
+            file.truncate(0)
+            try:
+                yield
+            except Unready as why:
+                file.write(self.text if why.status == REFUSED else "")
+                raise
 
     def compile(self):
         """Compiles it beside what is kept, and keeps it whole."""
@@ -216,6 +224,8 @@ class Crate:
             said.seek(0)
             if starter is None:
                 raise self.refused(tried.returncode, said.read().decode(errors="replace"))
+        if text_of(self.top, self.name) != self.text:
+            raise self.not_now(f"a source of {self.name} changed while it was compiled: run this again")
         (ready / "starter").write_text(json.dumps(starter))
         # Those of older texts. One that runs goes on.
         self.remove(f"{self.prefix}*", room)
@@ -247,7 +257,7 @@ class Crate:
                         os.kill(int(process.name), signal.SIGTERM)
                     starter = run_from(room, process, line)
                     if starter is not None:
-                        os.link(os.fsdecode(starter.pop()), ready)
+                        second_name(os.fsdecode(starter.pop()), ready)
                         return [os.fsdecode(it) for it in starter]
             time.sleep(0.2)
         return None
@@ -264,6 +274,14 @@ class Crate:
     @staticmethod
     def not_now(why, said=""):
         return Unready(NOT_NOW, why, said)
+
+
+def second_name(file, other):
+    """Gives a file another name, or copies it where that can't be."""
+    try:
+        os.link(file, other)
+    except OSError:
+        shutil.copy(file, other)
 
 
 def parent(process):
