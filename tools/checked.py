@@ -132,7 +132,8 @@ class Shown:
 
     def count(self):
         if self.is_terminal:
-            line = f"{self.who}: {self.text}: {time.monotonic() - self.begun:.0f} s"
+            # A narrow terminal shows the seconds too.
+            line = f"{self.who}: {time.monotonic() - self.begun:.0f} s, {self.text}"
             print(f"\r\033[K{line[: shutil.get_terminal_size().columns - 1]}", end="", file=sys.stderr, flush=True)
 
     def clear(self):
