@@ -11,6 +11,7 @@ is compiled anew where the crate's text differs, that of a crate below it, or th
 Both raise Unready, whose text is a line that says what happened and what to do, and whose status is that of ./srm; `said` is what rt printed. A caller that is to be
 interrupted turns signals into exceptions: then what runs here is ended, and the next call begins anew. Standard error tells what goes on, each line behind `who`."""
 import contextlib
+import errno
 import fcntl
 import hashlib
 import json
@@ -170,7 +171,8 @@ class Crate:
                 if not self.words():
                     self.compile()
         except OSError as error:
-            raise self.not_now(f"can't keep {self.name} in {self.all_kept}: {error.strerror}") from error
+            why = f"can't keep {self.name} in {self.all_kept}: {error.strerror}; that has to be a folder where this user may write"
+            raise self.full() if error.errno == errno.ENOSPC else self.not_now(why) from error
         return self.words()
 
     @contextlib.contextmanager
@@ -267,10 +269,13 @@ class Crate:
         """Why rt ended before it ran the program."""
         free = shutil.disk_usage(self.all_kept).free
         if "No space left on device" in said or free < ROOM:
-            return self.not_now(f"the disk of {self.all_kept} is full: free 1 GB there, and run this again")
+            return self.full()
         if status == 1:
             return Unready(REFUSED, f"{self.name} doesn't compile: the lines above say where", said)
         return self.not_now(f"rt stopped before it had compiled {self.name}, which takes {self.memory / 1e9:.0f} GB of memory: the lines above say more; run this again", said)
+
+    def full(self):
+        return self.not_now(f"the disk of {self.all_kept} is full: free 1 GB there, and run this again")
 
     @staticmethod
     def not_now(why, said=""):
