@@ -154,11 +154,12 @@ class Crate:
         self.kept = self.all_kept / f"{self.prefix}{self.text}"
 
     def words(self):
-        """The words that run it, where it is kept."""
+        """The words that run it, where it is kept, and the kit's loader is where it was."""
         try:
-            return [*json.loads((self.kept / "starter").read_text()), str(self.kept / self.name)]
+            found = [*json.loads((self.kept / "starter").read_text()), str(self.kept / self.name)]
         except OSError:
             return None
+        return found if os.access(found[0], os.X_OK) else None
 
     def ready(self):
         """The words that run it, once it is kept."""
