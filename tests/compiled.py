@@ -8,7 +8,7 @@ import tempfile
 from pathlib import Path
 
 sys.path.insert(0, str(Path(__file__).resolve().parent))
-from units import TOP, UNIT, all_names, is_inside, is_program, lay_out_crates, sources, write_first, write_program, write_tests
+from units import TOP, UNIT, all_names, is_inside, is_program, lay_out_crates, read_lines, write_first, write_program, write_tests
 
 sys.path.append(str(TOP / "tools"))
 import checked
@@ -20,19 +20,15 @@ MEMORY = 5_000_000_000
 
 
 def groups():
-    """All tests in two lists whose sources are about equally long, since two builds are compiled in less time than one."""
-    sizes = {it: sum(map(len, sources(UNIT / it).values())) for it in all_names()}
-    lists = [([], 0), ([], 0)]
-    for name in sorted(sizes, key=lambda it: -sizes[it]):
-        lists.sort(key=lambda it: it[1])
-        lists[0] = ([*lists[0][0], name], lists[0][1] + sizes[name])
-    return [names for names, _ in sorted(lists)]
+    """All tests in two lists, since two builds are compiled in less time than one: those that wait for clocks, and the others."""
+    lines = read_lines(UNIT / "uses.txt")
+    return {"tests_of_clocks": [it for it in all_names() if lines[it].waits()], "tests_of_none": [it for it in all_names() if not lines[it].waits()]}
 
 
 def crate_of(names):
     """What the crate is called that has the tests of these names. What was compiled of another text goes, by this."""
-    whole = groups()
-    return f"joined_{whole.index(names) + 1}" if names in whole else f"joined_{names[0] if len(names) == 1 else 'some'}"
+    whole = [crate for crate, of in groups().items() if of == names]
+    return whole[0] if whole else f"tests_of_{names[0]}" if len(names) == 1 else "tests_of_some"
 
 
 def laid_out(names, folder):
@@ -57,7 +53,7 @@ def words_of(names, may_compile=True):
 def builds(names):
     """The lists of names that are compiled together: those of all tests where one wants all or these are kept already, and one list of what is left."""
     inside = [[it] for it in names if is_inside(it)]
-    found = [it for it in groups() if {*it} <= {*names} or ({*it} & {*names} and words_of(it, may_compile=False))]
+    found = [it for it in groups().values() if it and ({*it} <= {*names} or ({*it} & {*names} and words_of(it, may_compile=False)))]
     rest = [it for it in names if not any(it in build for build in found + inside)]
     return found + ([rest] if rest else []) + inside
 
@@ -66,9 +62,12 @@ def main(names):
     try:
         print(json.dumps(words_of(names)))
     except checked.Unready as why:
-        sys.exit(f"{why.said}{why}" if why.said else str(why))
+        sys.exit(f"{why.said}{why}")
+    except OSError as error:
+        sys.exit(f"{error.filename}: {error.strerror}: mend this, and run it again")
 
 
 if __name__ == "__main__":
-    signal.signal(signal.SIGTERM, lambda *_: sys.exit(143))
+    for it in (signal.SIGINT, signal.SIGTERM):
+        signal.signal(it, lambda number, _: sys.exit(128 + number))
     main(sys.argv[1:])

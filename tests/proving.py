@@ -14,7 +14,7 @@ def prove(names):
         folder = Path(place)
         units.lay_out_crates(folder, ("src", "specs", "proofs"))
         for name in names:
-            crate = units.write_tests(f"joined_{name}", [name], folder, first=None)
+            crate = units.write_tests(f"tests_of_{name}", [name], folder, first=None)
             status = subprocess.run(["rt", "check", "--test", "--allow-holes"], cwd=crate).returncode
             print(f"{name}: {'open goals, as printed above' if status else 'proved'}", flush=True)
             lacking += status != 0

@@ -109,7 +109,7 @@ class Runner:
         with tempfile.TemporaryDirectory(prefix="test-") as folder:
             ended = self.run(test.name, test.words, SECONDS, cwd=folder, env={})
         passed = ended.status == 0
-        told = "" if passed else f"test {test.path} ... FAILED\n" + re.sub("^", "    ", ended.said + ended.complained, flags=re.M)
+        told = "" if passed else f"test {test.path} ... FAILED\n" + "".join(f"    {it}\n" for it in (ended.said + ended.complained).splitlines())
         return [Ran(test.name, int(passed), int(not passed), time.monotonic() - begun, told)], []
 
 
