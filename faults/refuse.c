@@ -18,12 +18,14 @@
  * program lists the calls that it makes.
  *
  * A program that was compiled with checks has its own allocator (AddressSanitizer's), which no preloaded one stands before. Each of the allocator's
- * functions begins with a jump, and this leads the jumps here.
+ * functions begins with a jump, and this leads the jumps here. Then only the program's own calls count: the allocator ends a program where the C library
+ * finds no memory for it.
  */
 #define _GNU_SOURCE
 #include <dlfcn.h>
 #include <errno.h>
 #include <fcntl.h>
+#include <link.h>
 #include <pthread.h>
 #include <stdatomic.h>
 #include <stdint.h>
@@ -107,7 +109,16 @@ static int fails(const char *kind, int error) {
     return 1;
 }
 
-static int lacks_memory(void) { return fails("memory", ENOMEM); }
+/* The code of a program with its own allocator. */
+static uintptr_t code_start, code_end;
+
+/* Whether memory is refused to who called. */
+static int lacks_memory(void *caller) {
+    uintptr_t at = (uintptr_t)caller;
+    return (!code_end || (code_start <= at && at < code_end)) && fails("memory", ENOMEM);
+}
+
+#define LACKS_MEMORY lacks_memory(__builtin_return_address(0))
 
 /* A call that was to move one byte or none can't be short, so it isn't counted. */
 static size_t shortened(const char *kind, size_t count) { return count > 1 && is_refused(kind) ? 1 : count; }
@@ -118,16 +129,16 @@ static __typeof__(calloc) *allocate_zeroes = __libc_calloc;
 static __typeof__(realloc) *allocate_anew = __libc_realloc;
 static __typeof__(aligned_alloc) *allocate_aligned = __libc_memalign;
 
-static void *refusing_malloc(size_t size) { return lacks_memory() ? NULL : allocate(size); }
+static void *refusing_malloc(size_t size) { return LACKS_MEMORY ? NULL : allocate(size); }
 
-static void *refusing_calloc(size_t count, size_t size) { return lacks_memory() ? NULL : allocate_zeroes(count, size); }
+static void *refusing_calloc(size_t count, size_t size) { return LACKS_MEMORY ? NULL : allocate_zeroes(count, size); }
 
-static void *refusing_realloc(void *old, size_t size) { return lacks_memory() ? NULL : allocate_anew(old, size); }
+static void *refusing_realloc(void *old, size_t size) { return LACKS_MEMORY ? NULL : allocate_anew(old, size); }
 
-static void *refusing_aligned_alloc(size_t alignment, size_t size) { return lacks_memory() ? NULL : allocate_aligned(alignment, size); }
+static void *refusing_aligned_alloc(size_t alignment, size_t size) { return LACKS_MEMORY ? NULL : allocate_aligned(alignment, size); }
 
 static int refusing_posix_memalign(void **made, size_t alignment, size_t size) {
-    void *block = refusing_aligned_alloc(alignment, size);
+    void *block = LACKS_MEMORY ? NULL : allocate_aligned(alignment, size);
     if (!block)
         return ENOMEM;
     *made = block;
@@ -165,6 +176,20 @@ static void *lead_jump(const char *name, void *here) {
     return jump + JUMP_BYTES + far;
 }
 
+/* Notes the code where this jump stands. */
+static int note_code(struct dl_phdr_info *object, size_t size, void *jump) {
+    (void)size;
+    for (int part = 0; part < object->dlpi_phnum; part++) {
+        uintptr_t start = object->dlpi_addr + object->dlpi_phdr[part].p_vaddr, end = start + object->dlpi_phdr[part].p_memsz;
+        if (object->dlpi_phdr[part].p_type == PT_LOAD && start <= (uintptr_t)jump && (uintptr_t)jump < end) {
+            code_start = start;
+            code_end = end;
+            return 1;
+        }
+    }
+    return 0;
+}
+
 static void lead_jumps(void) {
 #define LEAD(name, variable)                                                                                                                   \
     {                                                                                                                                          \
@@ -175,7 +200,8 @@ static void lead_jumps(void) {
     LEAD(calloc, allocate_zeroes)
     LEAD(realloc, allocate_anew)
     LEAD(aligned_alloc, allocate_aligned)
-    lead_jump("posix_memalign", refusing_posix_memalign);
+    if (lead_jump("posix_memalign", refusing_posix_memalign))
+        dl_iterate_phdr(note_code, dlsym(RTLD_DEFAULT, "posix_memalign"));
 }
 
 /* The bare calls of the system. The allocator of a program compiled with checks makes some before anything here has begun, and mustn't cause a look-up. */
