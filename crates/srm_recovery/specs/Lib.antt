@@ -1,0 +1,12 @@
+pub mod Timing
+pub mod Members
+pub mod Network
+pub mod Recovery
+pub mod Leaving
+pub mod Hearing
+pub mod Delivering
+pub mod Emptying
+pub mod Lengths
+pub mod Reporting
+pub mod Waits
+pub mod Examples
