@@ -33,6 +33,8 @@ MEMORY = 6_300_000_000
 ROOM = 1_000_000
 # The program is run so many times with nothing to read, so that one of these runs is seen.
 RUNS = 200
+# So many seconds pass between two looks at what runs: a crate's tests may take no longer.
+LOOK = 0.02
 # The words of the check beside a try, behind the prover's path. It tells who writes code about reserved names, and takes a processor for as long as the try does.
 HINTS = re.compile(rb"[^\0]*/rattle\0check\0(?:.*\0)?--start\0no function\0", re.S)
 NO_RT, REFUSED, NOT_NOW = 127, 70, 75
@@ -118,7 +120,7 @@ class Shown:
     """What standard error says. On a terminal a line counts the seconds, and is written over."""
 
     def __init__(self, who):
-        self.who, self.begun, self.is_terminal = who, time.monotonic(), sys.stderr.isatty()
+        self.who, self.is_terminal, self.begun, self.shown = who, sys.stderr.isatty(), time.monotonic(), -1
 
     def tell(self, text):
         self.clear()
@@ -127,14 +129,16 @@ class Shown:
             print(f"{self.who}: {text}", file=sys.stderr, flush=True)
 
     def begin(self, text):
-        self.begun, self.text = time.monotonic(), text
+        self.begun, self.shown, self.text = time.monotonic(), -1, text
         if not self.is_terminal:
             self.tell(text)
 
     def count(self):
-        if self.is_terminal:
+        seconds = int(time.monotonic() - self.begun)
+        if self.is_terminal and seconds > self.shown:
+            self.shown = seconds
             # A narrow terminal shows the seconds too.
-            line = f"{self.who}: {time.monotonic() - self.begun:.0f} s, {self.text}"
+            line = f"{self.who}: {seconds} s, {self.text}"
             print(f"\r\033[K{line[: shutil.get_terminal_size().columns - 1]}", end="", file=sys.stderr, flush=True)
 
     def clear(self):
@@ -254,16 +258,16 @@ class Crate:
         """Gives the program another name once rt runs it, and returns the words before it in its command line; nothing where rt ends before that."""
         while tried.poll() is None:
             self.shown.count()
-            for process in Path("/proc").glob("[0-9]*"):
-                with contextlib.suppress(OSError, ValueError):
+            for process in below(tried.pid):
+                with contextlib.suppress(OSError):
                     line = (process / "cmdline").read_bytes()
-                    if HINTS.match(line) and parent(process) == tried.pid:
+                    if HINTS.match(line):
                         os.kill(int(process.name), signal.SIGTERM)
                     starter = run_from(room, process, line)
                     if starter is not None:
                         second_name(os.fsdecode(starter.pop()), ready)
                         return [os.fsdecode(it) for it in starter]
-            time.sleep(0.2)
+            time.sleep(LOOK)
         return None
 
     def refused(self, status, said):
@@ -291,9 +295,14 @@ def second_name(file, other):
         shutil.copy(file, other)
 
 
-def parent(process):
-    """The process that began one."""
-    return int((process / "stat").read_text(errors="replace").rpartition(")")[2].split()[1])
+def below(number):
+    """A process, those that it began, and those that they began in turn, by /proc."""
+    found = [Path(f"/proc/{number}")]
+    for process in found:
+        # One may have ended meanwhile.
+        with contextlib.suppress(OSError):
+            found += [Path(f"/proc/{it}") for task in (process / "task").iterdir() for it in (task / "children").read_text().split()]
+    return found
 
 
 def run_from(room, process, line):
