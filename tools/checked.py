@@ -8,6 +8,8 @@ Both return words that run what was compiled: in the caller's folder, with the c
 folder is a crate's, in any repository: the folder two above it has crates.txt. What is kept stands in out/checked at the repository's top, or in the folder `kept`, and
 is compiled anew where the crate's text differs, that of a crate below it, or the kit's `rt`. While one call compiles, others that want the same wait for it.
 
+Where a check stops a run, AddressSanitizer prints addresses; where in the sources that is, only `rt try` says.
+
 Both raise Unready, whose text is a line that says what happened and what to do, and whose status is that of ./srm; `said` is what rt printed. A caller that is to be
 interrupted turns signals into exceptions: then what runs here is ended, and the next call begins anew. Standard error tells what goes on, each line behind `who`."""
 import contextlib
