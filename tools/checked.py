@@ -2,7 +2,7 @@
 
     import checked
     words = checked.program("crates/srm_main")      # subprocess.run([*words, "world"], ..) runs it
-    words = checked.tests("crates/srm_rota")        # the same of its #[test] functions
+    words = checked.tests("crates/srm_rota")        # [*words, "--list"] lists its tests, a line "NAME: test" each; [*words, NAME] runs one of them
 
 Both return words that run what was compiled: in the caller's folder, with the caller's streams and environment, and with the words that follow as its arguments. The
 folder is a crate's, in any repository: the folder two above it has crates.txt. What is kept stands in out/checked at the repository's top, or in the folder `kept`, and
