@@ -10,15 +10,18 @@ use Rattle.srm_names.specs.Names.{first_page, named}
 use Rattle.srm_names.proofs.Lists.{Has, Has-front, Has-contained, steps-append}
 use Rattle.srm_codec.specs.declared.datagram.Datagram.{Datagram}
 use Rattle.srm_codec.specs.Spelling.{bits_set}
+use Rattle.srm_bucket.specs.declared.limits.TheConstants.{GREATEST_LENGTH}
 use Rattle.srm_bucket.specs.Calls.{Classed}
 use Rattle.srm_timers.specs.declared.arm.ArmKind.TheVariants.{Ask, Fix}
 use Rattle.srm_entries.specs.declared.entry.Entry.{Entry}
+use Rattle.srm_entries.specs.declared.entry.Verdict.TheVariants.{Done}
 use Rattle.srm_entries.specs.Entries.{is_missing}
 use Rattle.srm_entries.specs.Timers.{asks_for}
 use Rattle.srm_entries.specs.Bucket.{handed_in_by}
 use Rattle.srm_entries.specs.Rates.{handed_so_far}
 use Rattle.srm_entries.specs.Sample.{first_stream, first_drawop}
 use Rattle.srm_entries.proofs.Plain.{draws_one}
+use Rattle.srm_world.specs.Traces.{of_member}
 use Rattle.srm_recovery.specs.Timing.{Timing, time_of}
 use Rattle.srm_recovery.specs.Members.{EntryWithin, KeepsUp, AcceptsWithin, EmptiesWithin, WaitsAtMost, HoldsOffAtMost, HoldsBy, KnowsBy, ReleasesBy, so_far}
 use Rattle.srm_recovery.specs.Network.{Carries, Connects, OwesBy}
@@ -34,14 +37,16 @@ use Rattle.srm_recovery.proofs.Telling.{sharing_law}
 use Rattle.srm_recovery.proofs.Reading.{reading_law}
 use Rattle.srm_recovery.proofs.Reporting.{reporting_law}
 use Rattle.srm_recovery.proofs.Waiting.{waits_law}
+use Rattle.srm_recovery.proofs.Ignoring.{accepting_law}
 use Rattle.srm_recovery.proofs.Hearing.{hearing_law}
+use Rattle.srm_recovery.proofs.Measuring.{length_law}
 use Rattle.srm_recovery.proofs.Delivering.{delivering_law}
 use Rattle.srm_recovery.proofs.Draining.{emptying_law}
 use Rattle.srm_recovery.proofs.Leaving.{keeping_law, leaving_law, silence_law}
-use Rattle.srm_recovery.proofs.GroupTrace.{prompt, lost, request_1, repair_0, sends, told_1, asks_1, asked_0, mends_0, mended_1, asks_leave, departs, tells, told_2, asks_2, asked_1, mends_1, mended_2, then_0, then_1, later_1, later_2, entries, trace, timing}
+use Rattle.srm_recovery.proofs.GroupTrace.{prompt, lost, request_1, repair_0, message_1, sends, told_1, asks_1, asked_0, mends_0, mended_1, asks_leave, departs, tells, told_2, asks_2, asked_1, mends_1, mended_2, then_0, then_1, later_1, later_2, entries, trace, timing}
 use Rattle.srm_recovery.proofs.GroupRepairer.{near_0, near_1, near_2, item_2}
 use Rattle.srm_recovery.proofs.GroupRun.{run, honest}
-use Rattle.srm_recovery.proofs.GroupNetwork.{other_member, heard_request_1, heard_repair_0, takes_part, goes_0, goes_1, goes_2, no_waits, holds_off_short, connects, told_first, connects_on, told_then}
+use Rattle.srm_recovery.proofs.GroupNetwork.{other_member, heard_request_1, heard_repair_0, heard_message_1, takes_part, goes_0, goes_1, goes_2, no_waits, holds_off_short, connects, told_first, connects_on, told_then}
 
 abbrev pub draws : EntryWithin trace timing 0 0 999990
 draws = record { before = []; this = draws_one; after = sends ∷ asked_0 ∷ mends_0 ∷ (resting 0 then_0 ++ asks_leave ∷ departs ∷ []); split = refl; not_before = lit≤ tt; not_after = lit≤ tt }
@@ -131,6 +136,14 @@ reports = reporting_law trace timing 0 999990 100 1000000 run speaks ((λ me. (l
 -- no member takes a distance to be above a tenth of a second
 pub waits : WaitsAtMost trace timing Ask 1 lost 1999990 0 × WaitsAtMost trace timing Fix 1 lost 1999990 0 × HoldsOffAtMost trace 1 300000
 waits = waits_law trace timing 100000 1 1999990 lost run (near_0, (near_1, (near_2, tt)))
+
+-- what it hands in is no longer than a datagram may be
+pub fits : item_2.item.length ≤ GREATEST_LENGTH
+fits = length_law trace (record { config = prompt 2; made = 499980 }) (of_member 2 entries) [] item_2 run (2, lit< tt, refl) refl (0, lit< tt, refl)
+
+-- it accepts what it is told
+pub accepted_2 : told_2.verdict ≡ Done
+accepted_2 = accepting_law trace heard_message_1.before heard_message_1.after told_2 message_1 run honest refl refl heard_message_1.was_sent heard_message_1.of_another heard_message_1.slots
 
 -- the rate empties the bucket of member 2
 

@@ -40,7 +40,7 @@ heard_request_1 = record { before = draws_one ∷ sends ∷ told_1 ∷ asks_1 �
 pub heard_repair_0 : HearsWithin trace timing 1 repair_0 1100000 1100001
 heard_repair_0 = record { before = draws_one ∷ sends ∷ told_1 ∷ asks_1 ∷ asked_0 ∷ mends_0 ∷ []; this = mended_1; after = lull ++ leaving; split = refl; member = refl; input = refl; was_sent = (3, lit< tt, refl); of_another = other_member 0 1 refl; slots = refl; not_before = lit≤ tt; not_after = lit≤ tt }
 
-heard_message_1 : HearsWithin trace timing 2 message_1 2000000 2000001
+abbrev pub heard_message_1 : HearsWithin trace timing 2 message_1 2000000 2000001
 heard_message_1 = record { before = draws_one ∷ sends ∷ told_1 ∷ asks_1 ∷ asked_0 ∷ mends_0 ∷ mended_1 ∷ (lull ++ asks_leave ∷ departs ∷ tells ∷ []); this = told_2; after = asks_2 ∷ asked_1 ∷ mends_1 ∷ mended_2 ∷ last_lull; split = refl; member = refl; input = refl; was_sent = (5, lit< tt, refl); of_another = other_member 1 2 refl; slots = refl; not_before = lit≤ tt; not_after = lit≤ tt }
 
 heard_request_2 : HearsWithin trace timing 1 request_2 2050000 2050001

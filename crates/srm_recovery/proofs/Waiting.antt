@@ -9,12 +9,11 @@ use Rattle.srm_names.specs.FullName.{FullName}
 use Rattle.srm_names.specs.Histories.{greatest}
 use Rattle.srm_names.specs.Names.{among}
 use Rattle.srm_names.proofs.Lists.{Has, Has-back, Has-passes, All-Has, all_by}
-use Rattle.srm_timers.specs.declared.limits.TheConstants.{GREATEST_EXPONENT, HOLD_OFF}
+use Rattle.srm_timers.specs.declared.limits.TheConstants.{GREATEST_EXPONENT}
 use Rattle.srm_timers.specs.declared.arm.Arm.{Arm}
 use Rattle.srm_timers.specs.declared.arm.Armed.{Armed}
 use Rattle.srm_timers.specs.declared.arm.ArmKind.{ArmKind}
 use Rattle.srm_timers.specs.declared.arm.ArmKind.TheVariants.{Ask, Fix}
-use Rattle.srm_timers.specs.FixCalls.{held_until}
 use Rattle.srm_timers.specs.Arms as timers
 use Rattle.srm_timers.specs.Arms.{WaitBasis, wait_basis, same_kind, arm_of, next_exponent, backs_off}
 use Rattle.srm_entries.specs.Configs.{Config}
@@ -156,15 +155,13 @@ own_here t p m from to run h =
     let same : h.this.member ≡ m = eqb-true h.this.member m k.1 in
     own_of t m run (subst (λ w. w < length t.starts) same (All-Has (λ (e : Entry). e.member < length t.starts) h.this t.entries run.inside k.0))
 
-abbrev Short : Trace → ℕ → ℕ → Start → Type 0
-Short t longest m a = a.config.me ≡ m → (before after : List Entry) (b : ℕ) → of_member m t.entries ≡ before ++ after → held_until 0 (distance a.config before b) ≤ longest
-
 pub waits_law : WaitsLaw
-waits_law t p d m to n run near = (asks, fixes, all_by (NearAtMost t.entries d) _ t.starts holds near)
+waits_law t p d m to n run near = (
+  asks,
+  fixes,
+  all_by (NearAtMost t.entries d) _ t.starts (λ a close me before after b q. (let l : distance a.config before b ≤ d = close before after b (ap (λ w. of_member w t.entries) me ∙ q) in omega (arith, l))) near,
+)
   where
-    holds : (a : Start) → NearAtMost t.entries d a → Short t (HOLD_OFF * d) m a
-    holds a close me before after b q = let near : distance a.config before b ≤ d = close before after b (ap (λ w. of_member w t.entries) me ∙ q) in omega (arith, near)
-
     near_at : (o : Own t m) (before after : List Entry) (b : ℕ) → of_member m t.entries ≡ before ++ after → distance o.start.config before b ≤ d
     near_at o before after b q = All-Has (NearAtMost t.entries d) o.start t.starts near o.has before after b (ap (λ w. of_member w t.entries) o.me ∙ q)
 
