@@ -13,8 +13,8 @@ from typing import NamedTuple
 import units
 
 TOP = units.TOP
-# A busy machine takes several times as long as an idle one.
-SECONDS = 180
+# A busy machine takes several times as long as an idle one, and the longest test takes half a minute on that.
+SECONDS = 600
 COUNTS = re.compile(r"^(\d+) passed, (\d+) failed$", re.M)
 
 
