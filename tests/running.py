@@ -109,7 +109,7 @@ class Runner:
         with tempfile.TemporaryDirectory(prefix="test-") as folder:
             ended = self.run(test.name, test.words, SECONDS, cwd=folder, env={})
         passed = ended.status == 0
-        told = "" if passed else f"test {test.path} ... FAILED\n" + "".join(f"    {it}\n" for it in (ended.said + ended.complained).splitlines())
+        told = "" if passed else f"test {test.path} ... FAILED\n" + "".join(f"    {it}\n" for it in placed(ended.said + ended.complained, [test.name]).splitlines())
         return [Ran(test.name, int(passed), int(not passed), time.monotonic() - begun, told)], []
 
 
@@ -118,9 +118,14 @@ def name_of(path, names):
     return path.partition("::")[0] if path.partition("::")[0] in names else names[0]
 
 
+def placed(text, names):
+    """What was told of the crate of some names, with its files as they stand in tests/unit."""
+    return re.sub(r"\bsrc/(\w+)((?:/\w+)*)\.rt\b", lambda it: f"tests/unit/{it[1]}{it[2] or '/lib'}.rattle" if it[1] in names else it[0], text)
+
+
 def unbuilt(names, complained, seconds):
     """What came of names that weren't compiled: those that the compiler named, and the others that were compiled with them."""
-    told = re.sub(r"\bsrc/(\w+)((?:/\w+)*)\.rt\b", lambda it: f"tests/unit/{it[1]}{it[2] or '/lib'}.rattle" if it[1] in names else it[0], complained)
+    told = placed(complained, names)
     at_fault = [it for it in names if f"tests/unit/{it}/" in told] or names[:1]
     others = f"not run, since it is compiled with {', '.join(at_fault)}"
     return [Ran(it, 0, 1, seconds, told if it == at_fault[0] else others) for it in names]
