@@ -1,5 +1,6 @@
 pub mod Placing
 pub mod Unheld
+pub mod Gaps
 pub mod Slots
 pub mod Tabling
 pub mod Pages

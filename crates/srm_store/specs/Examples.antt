@@ -5,7 +5,7 @@ use Rattle.srm_names.specs.declared.drawop.Drawop.{Drawop}
 use Rattle.srm_names.specs.FullName.{FullName}
 use Rattle.srm_names.specs.Names.{named}
 use Rattle.srm_store.specs.declared.insert.Insert.TheVariants.{Fresh, Known, Conflict}
-use Rattle.srm_store.specs.Held.{held_at, is_held, is_missing, insert_answer, known, missing, newly_missing, released, lacks_room, outgrow, page_of_name}
+use Rattle.srm_store.specs.Held.{held_at, is_held, is_missing, insert_answer, known, missing, newly_missing, next_missing, released, lacks_room, outgrow, page_of_name}
 use Rattle.srm_store.specs.PageTables.{with_pages}
 use Rattle.srm_store.specs.Finals.{Settling, final}
 
@@ -33,6 +33,10 @@ nothing_new = refl
 
 the_missing : missing (drawn 2 1 ∷ []) (named s 3 ∷ named s 4 ∷ []) s ≡ named s 1 ∷ named s 3 ∷ named s 4 ∷ []
 the_missing = refl
+
+-- the first missing name above a number
+missing_above : map (next_missing (drawn 2 1 ∷ []) (named s 4 ∷ []) s) (0 ∷ 1 ∷ 3 ∷ 4 ∷ []) ≡ Some (named s 1) ∷ Some (named s 3) ∷ Some (named s 4) ∷ None ∷ []
+missing_above = refl
 
 three_is_missing : is_missing (drawn 2 1 ∷ []) (named s 3 ∷ []) (named s 3) ≡ true
 three_is_missing = refl

@@ -51,6 +51,10 @@ unheld inserted names = filter (λ n. not (is_held inserted n)) names
 abbrev pub missing : List Drawop → List FullName → Stream → List FullName
 missing inserted evidence s = unheld inserted (names_up_to s (known evidence s))
 
+-- the first missing name of a stream above a number
+abbrev pub next_missing : List Drawop → List FullName → Stream → ℕ → Option FullName
+next_missing inserted evidence s after = find (λ n. nat_lt after n.number) (missing inserted evidence s)
+
 -- the names of a stream after this number, so many of them
 abbrev pub names_after : Stream → ℕ → ℕ → List FullName
 names_after s known count = map (named s) (count_up (known + 1) count)

@@ -1,7 +1,7 @@
 -- What contracts see of the fields, and what holds of them.
 use Rattle.std.specs.Prelude.{◌≡◌, ℕ, ◌≤◌, ◌<◌, [], length, vec_capacity}
 use Rattle.srm_names.specs.declared.limits.TheConstants.{DRAWOPS, MEMBERS}
-use Rattle.srm_store.specs.Places.{FilledTo}
+use Rattle.srm_store.specs.Places.{FilledTo, gaps_up_to}
 use Rattle.srm_store.specs.StreamPlaces.{StreamContent, blank_stream, SameStreamPlaces}
 use Rattle.srm_store.specs.Tables.{TableContent, stream_in}
 use Rattle.srm_store.specs.Rooms.{RoomContent}
@@ -21,6 +21,7 @@ pub record StreamIsRight (stream : StreamInside) : Type 0 where
   pub filled : FilledTo stream.places stream.cursor
   pub cursor : stream.cursor ≤ DRAWOPS
   pub known : stream.known ≤ DRAWOPS
+  pub missing : stream.missing ≡ gaps_up_to stream.places stream.known
 
 abbrev pub table_of : TableInside → TableContent
 table_of table = record { pages = table.pages; streams = table.streams.items }

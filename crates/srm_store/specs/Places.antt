@@ -1,7 +1,8 @@
 -- Places by number, in blocks.
-use Rattle.std.specs.Prelude.{◌≡◌, ℕ, ◌/◌, ◌%◌, ◌+◌, ◌<◌, ◌≤◌, nat_lt, Bool, true, List, [], length, slice_index_or, Option, None, IsSome, if◌then◌else◌, ◌==◌}
+use Rattle.std.specs.Prelude.{◌≡◌, ℕ, ◌/◌, ◌%◌, ◌+◌, ◌<◌, ◌≤◌, nat_lt, Bool, true, not, ◌&&◌, cond, List, [], length, filter, find, slice_index_or, Option, None, IsSome, is_some, if◌then◌else◌, ◌==◌}
 use Rattle.srm_names.specs.declared.limits.TheConstants.{DRAWOPS}
 use Rattle.srm_names.specs.declared.drawop.Drawop.{Drawop}
+use Rattle.srm_names.specs.Histories.{count_up}
 use Rattle.srm_store.specs.declared.places.TheConstants.{BLOCK}
 
 -- what is at a place: nothing, where no block goes so far
@@ -33,6 +34,22 @@ pub record Writes (number : ℕ) (value : Option Drawop) (old new : List (List (
 pub record FilledTo (blocks : List (List (Option Drawop))) (last : ℕ) : Type 0 where
   pub filled : (n : ℕ) → 1 ≤ n → n ≤ last → IsSome (place_at blocks n)
   pub gap : place_at blocks (last + 1) ≡ None
+
+-- whether a number isn't held
+abbrev pub is_gap : List (List (Option Drawop)) → ℕ → Bool
+is_gap blocks number = not (is_some (place_at blocks number))
+
+-- how many of the numbers from 1 to this one aren't held
+abbrev pub gaps_up_to : List (List (Option Drawop)) → ℕ → ℕ
+gaps_up_to blocks last = length (filter (is_gap blocks) (count_up 1 last))
+
+-- the first number above one, up to a last, that isn't held
+abbrev pub next_gap : List (List (Option Drawop)) → (after last : ℕ) → Option ℕ
+next_gap blocks after last = find (λ k. nat_lt after k && is_gap blocks k) (count_up 1 last)
+
+-- 0 for a number that is held, else 1
+abbrev pub one_unless_filled : List (List (Option Drawop)) → ℕ → ℕ
+one_unless_filled blocks number = cond (is_some (place_at blocks number)) 0 1
 
 -- there is nothing past the last number
 pub record EndsInTime (blocks : List (List (Option Drawop))) : Type 0 where

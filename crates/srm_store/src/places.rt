@@ -1,8 +1,8 @@
 //! The drawops of a stream, in places by number.
 
-ghost use Rattle.std.specs.Prelude.{◌≡◌, ◌≤◌, ℕ, [], true, OnOk, IsOk, IsSome, Some};
+ghost use Rattle.std.specs.Prelude.{◌≡◌, ◌≤◌, ◌+◌, ℕ, [], true, OnOk, IsOk, IsSome, Some};
 ghost use Rattle.std.specs.Option.{option_copied};
-ghost use Rattle.srm_store.specs.Places.{place_at, has_place, SamePlaces, StillHas, Writes, FilledTo};
+ghost use Rattle.srm_store.specs.Places.{place_at, has_place, SamePlaces, StillHas, Writes, FilledTo, gaps_up_to, one_unless_filled};
 
 use crate::block::Block;
 use srm_names::{DRAWOPS, Drawop};
@@ -73,6 +73,30 @@ impl Places {
     {
         let block = self.blocks.get((number / BLOCK) as usize)?;
         block.get((number % BLOCK) as usize)
+    }
+
+    /// Returns how many of the numbers after one, up to another, aren't held. Looks at each of them.
+    pub fn gaps_after(&self, after: u32, last: u32) -> u32
+        requires rising { after ≤ last }
+        requires last { last ≤ DRAWOPS }
+        ensures { gaps_up_to self.now last ≡ gaps_up_to self.now after + result }
+    {
+        let mut count = 0;
+        for number in after..last {
+            count += self.gap_at(number + 1);
+        }
+        count
+    }
+
+    /// 0 for a number that is held, else 1.
+    fn gap_at(&self, number: u32) -> u32
+        ensures value { result ≡ one_unless_filled self.now number }
+        ensures few { result ≤ 1 }
+    {
+        match self.get(number) {
+            Some(_) => 0,
+            None => 1,
+        }
     }
 
     /// Returns the number up to which places are filled, which is at least this one.

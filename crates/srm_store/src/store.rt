@@ -1,13 +1,13 @@
 //! What a member holds and knows.
 
-ghost use Rattle.std.specs.Prelude.{◌≡◌, ◌≢◌, ◌≤◌, ◌↔◌, true, List, [], ◌∷◌, ◌++◌, length, map, IfOk, OnOk, OnErr, IfSome, IsOk};
+ghost use Rattle.std.specs.Prelude.{◌≡◌, ◌≢◌, ◌≤◌, ◌↔◌, true, List, [], ◌∷◌, ◌++◌, length, map, option_map, IfOk, OnOk, OnErr, IfSome, IsOk};
 ghost use Rattle.std.specs.Option.{option_copied};
 ghost use Rattle.srm_names.specs.declared.drawop.Drawop.{Drawop as ADrawop};
 ghost use Rattle.srm_names.specs.declared.page.Page.{Page as APage};
 ghost use Rattle.srm_names.specs.FullName.{FullName};
-ghost use Rattle.srm_names.specs.Names.{among};
+ghost use Rattle.srm_names.specs.Names.{among, named};
 ghost use Rattle.srm_store.specs.declared.fault.StoreFault.TheVariants.{PageLimit, Memory};
-ghost use Rattle.srm_store.specs.Held.{held_at, is_held, known, missing, newly_missing, released, insert_answer, lacks_room, outgrow, page_of_name};
+ghost use Rattle.srm_store.specs.Held.{held_at, is_held, known, missing, newly_missing, next_missing, released, insert_answer, lacks_room, outgrow, page_of_name};
 ghost use Rattle.srm_store.specs.Finals.{Settling, final};
 ghost use Rattle.srm_store.specs.Stores.{HasSlots, KeepsSlots, IsReady, IsReadyToSettle, AreReady, HavePlaces, StaysReady, KeepsRoom};
 ghost use Rattle.srm_store.specs.PageTables.{is_in};
@@ -233,7 +233,7 @@ impl Store {
     }
 
     /// Notes that a name exists, and all lower numbers of its stream, as [`evidence`](Store::evidence) does, and returns no names. Takes
-    /// no memory, and as many steps for any number.
+    /// no memory, and a step for each number that is newly known.
     ///
     /// # Errors
     ///
@@ -266,6 +266,25 @@ impl Store {
         let known = self.table.places_of_stream(stream).known();
         let names = self.table.unheld(Vec::new(self.alloc), &stream, 0, known)?;
         Ok(names)
+    }
+
+    /// Returns how many names of a stream are missing: known to exist and not held. Takes no memory, and as many steps for any number.
+    pub fn missing_count(&self, stream: Stream) -> u32
+        ensures value { (inserted : List ADrawop) (evidence : List FullName) (settled : List Settling) → StoreFits inserted evidence settled self.now
+            → result ≡ length (missing inserted evidence stream) }
+        ensures last { result ≤ DRAWOPS }
+    {
+        self.table.places_of_stream(stream).missing()
+    }
+
+    /// Returns the first missing name of a stream whose number is above `after`; `None` if there is none. Takes no memory, and a step for each number up to the one
+    /// that it returns.
+    pub fn next_missing(&self, stream: Stream, after: u32) -> Option<Name>
+        ensures { (inserted : List ADrawop) (evidence : List FullName) (settled : List Settling) → StoreFits inserted evidence settled self.now
+            → result ≡ next_missing inserted evidence stream after }
+    {
+        let number = self.table.places_of_stream(stream).next_missing(after);
+        name_at(&stream, number)
     }
 
     /// Returns whether a drawop of this name is held. Takes no memory.
@@ -330,5 +349,17 @@ impl Store {
         ensures last { IfSome result (λ number. number ≤ DRAWOPS) }
     {
         self.finals.final_of(stream)
+    }
+}
+
+/// The name of a number of a stream, if there is one.
+fn name_at(stream: &Stream, number: Option<u32>) -> Option<Name>
+    requires low { IfSome number (λ k. 1 ≤ k) }
+    requires last { IfSome number (λ k. k ≤ DRAWOPS) }
+    ensures { result ≡ option_map (named stream.now) number }
+{
+    match number {
+        Some(number) => stream.at(number),
+        None => None,
     }
 }

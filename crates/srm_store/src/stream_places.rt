@@ -1,9 +1,9 @@
 //! The places of a stream.
 
-ghost use Rattle.std.specs.Prelude.{◌≡◌, ◌≤◌, ◌+◌, ◌++◌, true, is_some, max, OnOk, IfOk, OnErr, IsOk, Some, None, if◌then◌else◌, vec_len, vec_capacity};
+ghost use Rattle.std.specs.Prelude.{◌≡◌, ◌≤◌, ◌+◌, ◌++◌, true, cond, is_some, max, OnOk, IfOk, IfSome, OnErr, IsOk, Some, None, if◌then◌else◌, vec_len, vec_capacity};
 ghost use Rattle.std.specs.Option.{option_copied};
 ghost use Rattle.srm_names.specs.Names.{named};
-ghost use Rattle.srm_store.specs.Places.{place_at, has_place, FilledTo, StillHas};
+ghost use Rattle.srm_store.specs.Places.{place_at, has_place, FilledTo, StillHas, gaps_up_to, next_gap};
 ghost use Rattle.srm_store.specs.Held.{insert_answer, names_after};
 ghost use Rattle.srm_store.specs.StreamPlaces.{blank_stream, unheld_in_stream, SameStreamPlaces, StreamGains};
 
@@ -19,6 +19,8 @@ pub struct StreamPlaces {
     places: Places,
     /// The greatest number that is known to exist, or 0.
     known: u32,
+    /// How many of the numbers that are known to exist aren't held.
+    missing: u32,
     /// The release cursor: the places from 1 to this number are filled, and the next is not. It passes each place once.
     cursor: u32,
 }
@@ -43,6 +45,7 @@ impl StreamPlaces {
         StreamPlaces {
             places: Places::new(alloc),
             known: 0,
+            missing: 0,
             cursor: 0,
         }
     }
@@ -77,6 +80,28 @@ impl StreamPlaces {
         self.cursor
     }
 
+    /// Returns how many of the numbers that are known to exist aren't held.
+    pub fn missing(&self) -> u32
+        ensures value { result ≡ gaps_up_to self.now.places self.now.known }
+        ensures last { result ≤ DRAWOPS }
+    {
+        self.missing
+    }
+
+    /// Returns the first number above one that is known to exist and isn't held. Looks at each number in between.
+    pub fn next_missing(&self, after: u32) -> Option<u32>
+        ensures value { result ≡ next_gap self.now.places after self.now.known }
+        ensures low { IfSome result (λ number. 1 ≤ number) }
+        ensures last { IfSome result (λ number. number ≤ DRAWOPS) }
+    {
+        for number in after..self.known {
+            if !self.holds(number + 1) {
+                return Some(number + 1);
+            }
+        }
+        None
+    }
+
     /// Makes the place of a number, so that a drawop can be put there without memory.
     pub fn make_place(&mut self, number: u32) -> Result<(), AllocError>
         ensures same { SameStreamPlaces self.old self.new }
@@ -101,18 +126,21 @@ impl StreamPlaces {
         }
         self.places.make(number)?;
         self.places.put(number, drawop);
+        self.missing = one_less_if(number <= self.known, self.missing);
         if number == self.cursor + 1 {
             self.cursor = self.places.filled_from(number);
         }
         Ok(Insert::Fresh)
     }
 
-    /// Notes that a number is known to exist, and all below it.
+    /// Notes that a number is known to exist, and all below it. Looks at each number that is newly known.
     pub fn know(&mut self, number: u32)
         requires { number ≤ DRAWOPS }
         ensures { self.new ≡ record self.old { known = max self.old.known number } }
     {
-        self.known = self.known.max(number);
+        let known = self.known.max(number);
+        self.missing += self.places.gaps_after(self.known, known);
+        self.known = known;
     }
 
     /// Adds to a list the names of the numbers after this one, so many of them, that aren't held.
@@ -148,6 +176,14 @@ impl StreamPlaces {
             stream.at(number)
         }
     }
+}
+
+/// One less, if one of those that are counted is gone.
+fn one_less_if(gone: bool, count: u32) -> u32
+    requires { gone ≡ true → 1 ≤ count }
+    ensures { count ≡ result + cond gone 1 0 }
+{
+    if gone { count - 1 } else { count }
 }
 
 /// What an insert finds of a drawop whose name is held.
