@@ -128,6 +128,10 @@ evidence_in es = flat_map evidence_by es
 abbrev pub known : List Entry → Stream → ℕ
 known es s = store.known (evidence_in es) s
 
+-- the missing names of the stream, in order
+abbrev pub missing : List Entry → Stream → List FullName
+missing es s = store.missing (held es) (evidence_in es) s
+
 abbrev pub is_missing : List Entry → FullName → Bool
 is_missing es n = store.is_missing (held es) (evidence_in es) n
 

@@ -14,6 +14,8 @@ pub mod Giving
 pub mod Runs
 pub mod Hearing
 pub mod Promises
+pub mod Outstanding
+pub mod OutstandingExamples
 pub mod Admitting
 pub mod AdmittingExamples
 pub mod Rates
