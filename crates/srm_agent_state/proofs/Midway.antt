@@ -24,7 +24,7 @@ use Rattle.srm_entries.specs.Entries.{is_missing}
 use Rattle.srm_entries.specs.Distances.{distance}
 use Rattle.srm_entries.specs.Timers.{arm_in, last_ask, asker, repaired, first_asker, fix_running, held_off, low_of, high_of, ask_running, only_if}
 use Rattle.srm_agent_state.specs.TimersKept.{TimersContent, TimersFit}
-use Rattle.srm_agent_state.specs.TimerCalls.{KeepSettings, WaitsAreChosen, TimersStay, AreDueAsks, AreDueFixes, AsksRanOut, FixesRanOut, IsBefore, TimersNext}
+use Rattle.srm_agent_state.specs.TimerCalls.{KeepSettings, WaitsAreChosen, TimersStay, AreDueAsks, AreDueFixes, AsksRanOut, FixesRanOut, IsBefore, TimersNext, RequestsNext, RepairsNext}
 use Rattle.srm_entries.proofs.Adding.{last_ask-snoc, fix_running-snoc, held_off-snoc}
 use Rattle.srm_entries.proofs.Setting.{of_kind, find_kind, all_asks, chosen_asks}
 
@@ -270,6 +270,12 @@ same_first timer told moment same h = record {
     one : (m : Option ℕ) → IfSome m (λ t. (n : FullName) × (option_map runs_out_at (timer n) ≡ Some t)) → IfSome m (λ t. (n : FullName) × (option_map runs_out_at (told n) ≡ Some t))
     one None h = h
     one (Some t) (n, e) = (n, ap (option_map runs_out_at) (sym (same n)) ∙ e)
+
+pub first_request : (t : TimersContent) (a : Option ℕ) → AskNext t.asks a → RequestsNext t a
+first_request t a asks = record { each = λ c past h. same_first (ask_timer h.ask_calls) (ask_running past) a h.ask_timers (asks.each c.c1 c.c2 h.ask_calls h.asks) }
+
+pub first_repair : (t : TimersContent) (b : Option ℕ) → FixNext t.fixes b → RepairsNext t b
+first_repair t b fixes = record { each = λ c past h. same_first (fix_timer h.fix_calls) (fix_running past) b h.fix_timers (fixes.each c.d1 c.d2 h.fix_calls h.fixes) }
 
 pub first_of_both : (t : TimersContent) (a b : Option ℕ) → AskNext t.asks a → FixNext t.fixes b → TimersNext t (lesser a b)
 first_of_both t a b asks fixes = record {

@@ -10,7 +10,7 @@ use Rattle.srm_store.specs.Fits.{StoreFits}
 use Rattle.srm_store.specs.Stores.{StoreContent}
 use Rattle.srm_timers.specs.declared.arm.Arm.{Arm}
 use Rattle.srm_timers.specs.declared.arm.ArmKind.TheVariants.{Ask, Fix}
-use Rattle.srm_timers.specs.Arms.{AreChosen, ran_out, plan_of, backs_off}
+use Rattle.srm_timers.specs.Arms.{AreChosen, RunsOutFirst, ran_out, plan_of, backs_off}
 use Rattle.srm_timers.specs.AskCalls.{AskCall, AskFits, AskAdds, AskDue, AskTimersRun, ask_timer, ask_plan, sets}
 use Rattle.srm_timers.specs.FixCalls.{Asked, FixContent, FixAdds, NotesRequest, FixDue, FixRepairs, sets_fix}
 use Rattle.srm_timers.specs.Distances.{distance_to}
@@ -19,6 +19,7 @@ use Rattle.srm_entries.specs.Configs.{Config}
 use Rattle.srm_entries.specs.Entries.{accepted, ticked, state, is_gone, held, evidence_in, is_missing}
 use Rattle.srm_entries.specs.Distances.{distance}
 use Rattle.srm_entries.specs.Timers.{low_of, high_of, last_ask, fix_running, ArmsRight, TimersRight, ask_running}
+use Rattle.srm_entries.specs.Outstanding.{becomes_missing}
 use Rattle.srm_entries.specs.Verdicts.{settlings}
 use Rattle.srm_agent_state.specs.TimersKept.{TimersFit, TimersContent, HaveSettings}
 
@@ -42,7 +43,7 @@ pub record AreDistancesAfter (c : Config) (es : List Entry) (dist : List ℕ) : 
 
 -- the names are all that the entry makes missing, in order of name
 abbrev pub AreNewlyMissing : List Entry → Entry → List FullName → Type 0
-AreNewlyMissing past e names = AreExactly (λ n. not (is_missing past n) && is_missing (past ++ e ∷ []) n) names
+AreNewlyMissing past e names = AreExactly (becomes_missing past e) names
 
 -- a datagram was heard and accepted at a moment, and these timers were set; nothing was requested or repaired
 pub record HearsWith (g : Datagram) (now : ℕ) (set : List Arm) (e : Entry) : Type 0 where
@@ -161,6 +162,14 @@ pub record FirstOfBothRunsOut (past : List Entry) (moment : Option ℕ) : Type 0
   pub no_ask : (u : ℕ) → IsBefore u moment → (n : FullName) → ran_out u (ask_running past n) ≡ false
   pub no_fix : (u : ℕ) → IsBefore u moment → (n : FullName) → ran_out u (fix_running past n) ≡ false
   pub is_one : IfSome moment (λ t. (n : FullName) × ((ran_out t (ask_running past n) ≡ true) ⊎ (ran_out t (fix_running past n) ≡ true)))
+
+-- the first request timer of all expires at this moment, and none runs where there is none
+pub record RequestsNext (t : TimersContent) (moment : Option ℕ) : Type 0 where
+  pub each : (c : Config) (past : List Entry) → TimersFit c past t → RunsOutFirst (ask_running past) moment
+
+-- and the first repair timer
+pub record RepairsNext (t : TimersContent) (moment : Option ℕ) : Type 0 where
+  pub each : (c : Config) (past : List Entry) → TimersFit c past t → RunsOutFirst (fix_running past) moment
 
 pub record TimersNext (t : TimersContent) (moment : Option ℕ) : Type 0 where
   pub each : (c : Config) (past : List Entry) → TimersFit c past t → FirstOfBothRunsOut past moment

@@ -7,7 +7,7 @@ ghost use Rattle.srm_timers.specs.AskCalls.{AskAdds, ArmsOfFound, DetectAndDueRe
 ghost use Rattle.srm_deadlines.specs.Deadlines.{DueAmong};
 ghost use Rattle.srm_timers.specs.Distances.{AreDistances};
 ghost use Rattle.srm_agent_state.specs.TimersKept.{TimersFit, HaveSettings};
-ghost use Rattle.srm_agent_state.specs.TimerCalls.{AreDueAsks, AreDueFixes, AsksRanOut, FixesRanOut, KeepSettings, TimersNext, TimersStay, WaitsAreChosen};
+ghost use Rattle.srm_agent_state.specs.TimerCalls.{AreDueAsks, AreDueFixes, AsksRanOut, FixesRanOut, KeepSettings, RepairsNext, RequestsNext, TimersNext, TimersStay, WaitsAreChosen};
 
 mod hearing;
 mod requests;
@@ -105,6 +105,22 @@ impl Timers {
     {
         let arms = self.asks.detect(newly_missing, asked, dist, now, words)?;
         Ok(arms)
+    }
+
+    /// Returns when the first request timer expires, in microseconds; `None` if none runs. Takes no memory.
+    #[tactic(auto, using(crate::proofs::Midway::first_request))]
+    pub fn next_request(&self) -> Option<u64>
+        ensures { RequestsNext self.now result }
+    {
+        self.asks.next()
+    }
+
+    /// Returns when the first repair timer expires, in microseconds; `None` if none runs. Takes no memory.
+    #[tactic(auto, using(crate::proofs::Midway::first_repair))]
+    pub fn next_repair(&self) -> Option<u64>
+        ensures { RepairsNext self.now result }
+    {
+        self.fixes.next()
     }
 
     /// Returns when the first timer expires, in microseconds; `None` if none runs. Takes no memory.
