@@ -1,5 +1,5 @@
 -- The definitions at worked examples.
-use Rattle.std.specs.Prelude.{◌≡◌, ℕ, true, false, [], ◌∷◌, map, length, Some, None, List, refl}
+use Rattle.std.specs.Prelude.{◌≡◌, ℕ, true, false, [], ◌∷◌, map, length, Some, None, Option, List, refl}
 use Rattle.srm_names.specs.declared.stream.Stream.{Stream}
 use Rattle.srm_names.specs.declared.drawop.Drawop.{Drawop}
 use Rattle.srm_names.specs.FullName.{FullName}
@@ -8,6 +8,7 @@ use Rattle.srm_store.specs.declared.insert.Insert.TheVariants.{Fresh, Known, Con
 use Rattle.srm_store.specs.Held.{held_at, is_held, is_missing, insert_answer, known, missing, newly_missing, next_missing, released, lacks_room, outgrow, page_of_name}
 use Rattle.srm_store.specs.PageTables.{with_pages}
 use Rattle.srm_store.specs.Finals.{Settling, final}
+use Rattle.srm_store.specs.Places.{gaps_up_to, next_gap}
 
 abbrev on_page : ℕ → ℕ → Stream
 on_page source number = record { source = source; page = record { creator = 0; number = number } }
@@ -37,6 +38,18 @@ the_missing = refl
 -- the first missing name above a number
 missing_above : map (next_missing (drawn 2 1 ∷ []) (named s 4 ∷ []) s) (0 ∷ 1 ∷ 3 ∷ 4 ∷ []) ≡ Some (named s 1) ∷ Some (named s 3) ∷ Some (named s 4) ∷ None ∷ []
 missing_above = refl
+
+-- a block that has number 2 of the numbers up to 3, and nothing past it
+abbrev with_two : List (List (Option Drawop))
+with_two = (None ∷ None ∷ Some (drawn 2 1) ∷ []) ∷ []
+
+three_gaps : gaps_up_to with_two 4 ≡ 3
+unfolding Rattle.srm_store.specs.Places.place_at
+three_gaps = refl
+
+gaps_above : map (λ after. next_gap with_two after 4) (0 ∷ 1 ∷ 3 ∷ 4 ∷ []) ≡ Some 1 ∷ Some 3 ∷ Some 4 ∷ None ∷ []
+unfolding Rattle.srm_store.specs.Places.place_at
+gaps_above = refl
 
 three_is_missing : is_missing (drawn 2 1 ∷ []) (named s 3 ∷ []) (named s 3) ≡ true
 three_is_missing = refl

@@ -1,4 +1,4 @@
-use Rattle.std.proofs.Common.{◌≡◌, ◌≤◌, ◌+◌, ℕ, max}
+use Rattle.std.proofs.Common.{◌≡◌, ◌≤◌, ◌+◌}
 use Rattle.srm_store.specs.Places.{gaps_up_to}
 use Rattle.srm_store.proofs.places.Places.gaps_after.Given as goal
 

@@ -1,6 +1,4 @@
-use Rattle.std.proofs.Common.{◌≡◌, ◌+◌, ◌≤◌, arith, ap, sym, ◌∙◌, ℕ, rules}
-use Rattle.std.specs.Prelude.{cond, nat_le}
-use Rattle.srm_store.specs.Places.{gaps_up_to}
+use Rattle.std.proofs.Common.{rules}
 use Rattle.srm_store.proofs.Gaps.{put_counts, was_counted, counts_on}
 use Rattle.srm_store.proofs.Gaps.{none_there}
 use Rattle.srm_store.proofs.stream_places.StreamPlaces.insert.Goals as goal
