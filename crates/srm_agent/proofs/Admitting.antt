@@ -19,7 +19,7 @@ use Rattle.srm_agent.specs.Fits.{AgentFits}
 use Rattle.srm_agent.specs.Admitting.{DrawAdmitted, DrawAdmittedFrom}
 use Rattle.srm_agent.proofs.NextDueIdle.{calls_before}
 
-so_far : {W : Type 0} (c : Config) (made : ℕ) (past : List Entry) (a : AgentContent W) (h : AgentFits c made past a) → BucketLaw c.rate c.depth (bucket_calls c.me h.bucket.goings)
+pub so_far : {W : Type 0} (c : Config) (made : ℕ) (past : List Entry) (a : AgentContent W) (h : AgentFits c made past a) → BucketLaw c.rate c.depth (bucket_calls c.me h.bucket.goings)
 so_far c made past a h = subst (BucketLaw c.rate c.depth) h.bucket.read (law-read datagram_of c.rate c.depth h.bucket.calls h.bucket.fits.law)
 
 -- the calls of the bucket are those that the entries make

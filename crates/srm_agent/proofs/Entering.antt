@@ -13,7 +13,7 @@ use Rattle.srm_entries.specs.declared.entry.Input.TheVariants.{Showed, AskedLeav
 use Rattle.srm_entries.specs.declared.entry.Verdict.{Verdict}
 use Rattle.srm_entries.specs.declared.entry.Verdict.TheVariants.{Done, Refused}
 use Rattle.srm_entries.specs.Configs.{Config}
-use Rattle.srm_entries.specs.Entries.{is_tick, takes_moment, moments_counted, last_moment, is_gone, state, done_input, page_shown, slots}
+use Rattle.srm_entries.specs.Entries.{is_tick, takes_moment, moments_counted, last_moment, is_gone, done_input, page_shown, slots}
 use Rattle.srm_store.specs.PageTables.{table_lacks_room, with_page}
 use Rattle.srm_entries.specs.Verdicts.{VerdictRight}
 use Rattle.srm_entries.specs.Giving.{MessageRight, given_in}

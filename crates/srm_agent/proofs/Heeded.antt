@@ -1,5 +1,5 @@
 -- An agent after it heard and accepted a datagram.
-use Rattle.std.proofs.Common.{◌≡◌, ℕ, ◌≤◌, ◌==◌, max, Bool, true, false, ◌&&◌, List, [], ◌∷◌, ◌++◌, length, ◌+◌, refl, ap, sym, ◌∙◌, subst, arith}
+use Rattle.std.proofs.Common.{◌≡◌, ℕ, ◌≤◌, ◌==◌, max, Bool, true, false, ◌&&◌, List, [], ◌∷◌, ◌++◌, length, refl, ap, sym, ◌∙◌, subst, arith}
 use Rattle.std.specs.Prelude.{Some, filter, nat_lt, if◌then◌else◌}
 use Rattle.std.specs.List.{flat_map, list_any, AllByRecursion, cons_option}
 use Rattle.std.proofs.lemmas.List.{append-nil}

@@ -60,7 +60,7 @@ noise_enters next_word a b moment fault e here late other new is = subst (λ x. 
 pub noise_is : (me moment : ℕ) (s : AgentState) (fault : DecodeFault) (cause : Cause) (e : Entry) → fault ≢ decoding.Memory → cause ≡ causes.Decode fault → e ≡ entry_without_effects me moment Noise (Ignored cause) None s → IsNoiseFor fault e
 noise_is me moment s fault cause e other found is = record { input = ap (λ (x : Entry). x.input) is; verdict = ap (λ (x : Entry). x.verdict) is ∙ ap Ignored found; other = other }
 
-judged_fault : (fault : DecodeFault) (judged : Result Datagram DecodeFault) → fault ≢ decoding.Memory → IsJudged takes_memory (Err fault) judged → judged ≡ Err fault
+pub judged_fault : (fault : DecodeFault) (judged : Result Datagram DecodeFault) → fault ≢ decoding.Memory → IsJudged takes_memory (Err fault) judged → judged ≡ Err fault
 judged_fault fault judged other (inl e) = e
 judged_fault fault judged other (inr e) = absurd (other e.0)
 

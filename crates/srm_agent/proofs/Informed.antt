@@ -50,7 +50,7 @@ no_drawops (Data drawop) is = absurd is
 no_drawops (Request sender name mask) is = absurd is
 no_drawops (Repair sender drawop) is = absurd is
 
-shows_rows : (g : Datagram) (me moment : ℕ) (arms : List Arm) (state : AgentState) → IsSession g → ShowsRows (names_in g) (heard_entry me moment g arms state)
+pub shows_rows : (g : Datagram) (me moment : ℕ) (arms : List Arm) (state : AgentState) → IsSession g → ShowsRows (names_in g) (heard_entry me moment g arms state)
 shows_rows (Session sender sent farewell shown rows echoes) me moment arms state is = record { shows = λ s. ap (λ (ns : List FullName). greatest (flat_map (number_in s) ns)) (append-nil rows); gains = λ n. refl }
 shows_rows (Data drawop) me moment arms state is = absurd is
 shows_rows (Request sender name mask) me moment arms state is = absurd is

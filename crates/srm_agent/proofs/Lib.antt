@@ -36,3 +36,6 @@ pub mod NextDueRests
 pub mod NextDue
 pub mod Passing
 pub mod Admitting
+pub mod Asking
+pub mod Unknown
+pub mod WouldMiss

@@ -16,7 +16,6 @@ use Rattle.srm_entries.specs.declared.entry.Input.TheVariants as inputs
 use Rattle.srm_entries.specs.declared.entry.Input.TheVariants.{Gave}
 use Rattle.srm_entries.specs.declared.entry.Verdict.TheVariants.{Done, Ignored, Refused}
 use Rattle.srm_entries.specs.Sample.{first_stream, first_drawop, third_drawop, draws, hears, gives, ask_arm}
-use Rattle.srm_agent.specs.declared.heard.Heard.{Heard}
 use Rattle.srm_entries.specs.Still.{entry_without_effects}
 use Rattle.srm_agent.specs.Noting.{moment_that_counts, AnswersAs, AnswersHeard, IsDrawnName, verdict_of_outcome}
 use Rattle.srm_agent.specs.Heeding.{entry_with}

@@ -8,6 +8,7 @@ pub mod Noting
 pub mod SessionMessages
 pub mod DueItems
 pub mod Waking
+pub mod Asking
 pub mod Admitting
 pub mod Ticking
 pub mod Examples

@@ -4,7 +4,7 @@
 //! return.
 //!
 //! [`Agent::hear`] returns a [`Heard`], [`Agent::tick`] a [`Ticked`] with an [`Out`] for each datagram. The calls that end in `_noted` return a [`Noted`] with the
-//! [`Entry`].
+//! [`Entry`]. Calls that change nothing tell what the member holds, misses and has to send: [`Agent::outstanding`] returns an [`Outstanding`].
 //!
 //! ```
 //! let config = Config::with(me, members, session, Settings::default())?;
@@ -27,11 +27,14 @@
 mod agent;
 mod heard;
 mod noted;
+mod outstanding;
 mod ticked;
 
 pub use agent::Agent;
 pub use heard::Heard;
 pub use noted::Noted;
+pub use outstanding::Outstanding;
+pub use srm_bucket::Class;
 pub use srm_entries::{
     AgentFault, AgentState, Arm, ArmKind, CAUSES, Cause, Config, Effects, Entry, Input, Outcome,
     Settings, Verdict, gives, keeps_rate, responds,

@@ -10,7 +10,7 @@ ghost use Rattle.srm_entries.specs.Configs.{Config as AConfig};
 ghost use Rattle.srm_agent.specs.declared.agent.session_message.TheConstants.{LONGEST_INTERVAL, LONGEST_SESSION_MESSAGE};
 ghost use Rattle.srm_entries.specs.declared.entry.Entry.{Entry as AnEntry};
 ghost use Rattle.srm_agent.specs.Fits.{AgentFits};
-ghost use Rattle.srm_agent.specs.SessionMessages.{IsSessionMessageOf, IsSessionMessageSpelled, AreDueRows, AreOwed, AreShown, AreOwnStreams, AreInOrder, AreRowsOf, IsRow, SaysLeft, CountsOnce};
+ghost use Rattle.srm_agent.specs.SessionMessages.{IsSessionMessageOf, IsSessionMessageSpelled, AreDueRows, AreOwed, AreShown, AreOwnStreams, AreInOrder, AreRowsOf, IsRow, CountsOnce};
 ghost use Rattle.srm_entries.specs.Sessions.{members_remaining, session_interval, if_positive};
 
 use super::Agent;
@@ -179,17 +179,6 @@ impl<W: Words + Drop> Agent<W> {
         ensures { CountsOnce self.now member result }
     {
         if self.has_left(member) { 0 } else { 1 }
-    }
-
-    /// Whether a member is known to have left.
-    fn has_left(&self, member: Member) -> bool
-        ensures { SaysLeft self.now member result }
-    {
-        let stream = Stream {
-            source: member,
-            page: Page::first(),
-        };
-        self.store.final_of(stream).is_some()
     }
 }
 
