@@ -11,6 +11,8 @@ ghost use Rattle.srm_world.specs.Claims.{IsLawfulJournal};
 ghost use Rattle.srm_world.specs.Recording.{Records, RecordsHeard, RecordsAll};
 ghost use Rattle.srm_world.specs.WaitWords.{RecordsByWords};
 
+mod asking;
+
 use crate::forgotten::Forgotten;
 use crate::journal::Journal;
 use crate::past::Past;
