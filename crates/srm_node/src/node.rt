@@ -12,6 +12,8 @@ ghost use Rattle.srm_node.specs.Waits.{WaitsByWords};
 ghost use Rattle.srm_node.specs.Moments.{GrowsNow};
 ghost use Rattle.srm_node.specs.Turns.{ReadsNow, HearsNow, LooksNow, DrawsNow, LeavesNow, ShowsNow, TicksNow, GivesNow, HearsCut, DrawsCut, ShowsCut, GivesCut, TurnEnds, Paused, RunEnds};
 
+mod asking;
+
 use crate::counting::{Counts, counts_in};
 use crate::drawing::{draw_strokes, strokes_after};
 use crate::ending::is_ended;
