@@ -40,6 +40,10 @@ uint32_t srm_raw_new_page(srm_handle *, srm_page *);
 uint32_t srm_raw_distance(srm_handle *, uint8_t, uint64_t *);
 bool srm_raw_admits(srm_handle *, size_t, uint64_t);
 uint64_t srm_raw_admits_from(srm_handle *, size_t);
+uint32_t srm_raw_known(srm_handle *, uint8_t, uint16_t, uint8_t, uint32_t *);
+uint32_t srm_raw_missing(srm_handle *, uint8_t, uint16_t, uint8_t, uint32_t *);
+uint32_t srm_raw_next_missing(srm_handle *, uint8_t, uint16_t, uint8_t, uint32_t, uint32_t *);
+uint32_t srm_raw_outstanding(srm_handle *, srm_outstanding *);
 
 /* What an empty slice points to. */
 static uint8_t nowhere;
@@ -48,7 +52,7 @@ _Static_assert(sizeof(size_t) == 8, "Rattle's usize has 64 bits");
 _Static_assert(sizeof(srm_handle) == 2 * sizeof(void *), "a handle");
 _Static_assert(sizeof(srm_page) == 4 && sizeof(srm_name) == 12, "names");
 _Static_assert(offsetof(srm_config, least_distance) == SRM_CONFIG_SIZE_MIN && sizeof(srm_config) == 32, "settings");
-_Static_assert(sizeof(srm_heard) == 16 && sizeof(srm_ticked) == 32, "answers");
+_Static_assert(sizeof(srm_heard) == 16 && sizeof(srm_ticked) == 32 && sizeof(srm_outstanding) == 48, "answers");
 _Static_assert(sizeof(srm_raw_message) == 32 && offsetof(srm_message, kind) == offsetof(srm_raw_message, kind), "a message");
 
 int srm_version(void) { return SRM_VERSION; }
@@ -219,6 +223,29 @@ int srm_agent_distance(srm_agent *agent, unsigned member, uint64_t *distance)
     if (member >= SRM_MEMBERS_MAX)
         return SRM_ERROR_MEMBER;
     return (int)srm_raw_distance(&agent->handle, (uint8_t)member, distance);
+}
+
+/* A member as a byte: one that does not fit is still past the last. */
+static uint8_t member_of(unsigned number) { return number < SRM_MEMBERS_MAX ? (uint8_t)number : SRM_MEMBERS_MAX; }
+
+int srm_agent_known(srm_agent *agent, srm_page page, unsigned source, uint32_t *known)
+{
+    return agent && known ? (int)srm_raw_known(&agent->handle, page.creator, page.number, member_of(source), known) : SRM_ERROR_NULL;
+}
+
+int srm_agent_missing(srm_agent *agent, srm_page page, unsigned source, uint32_t *count)
+{
+    return agent && count ? (int)srm_raw_missing(&agent->handle, page.creator, page.number, member_of(source), count) : SRM_ERROR_NULL;
+}
+
+int srm_agent_next_missing(srm_agent *agent, srm_page page, unsigned source, uint32_t after, uint32_t *number)
+{
+    return agent && number ? (int)srm_raw_next_missing(&agent->handle, page.creator, page.number, member_of(source), after, number) : SRM_ERROR_NULL;
+}
+
+int srm_agent_outstanding(srm_agent *agent, srm_outstanding *outstanding)
+{
+    return agent && outstanding ? (int)srm_raw_outstanding(&agent->handle, outstanding) : SRM_ERROR_NULL;
 }
 
 int srm_agent_give(srm_agent *agent, unsigned slot, srm_message *message)

@@ -414,6 +414,63 @@ SRM_API int srm_agent_state(srm_agent *agent);
  */
 SRM_CHECKED SRM_API int srm_agent_distance(srm_agent *agent, unsigned member, uint64_t *distance);
 
+/**
+ * Writes the greatest number that the member knows to exist of a source's strokes on a page, or 0.
+ *
+ * @param agent       the agent
+ * @param page        the page; it need not be in the table
+ * @param source      0 to 31; it need not be below `members`
+ * @param[out] known  the number, at most ::SRM_STROKES_MAX
+ * @return ::SRM_OK, or the first of these that holds: ::SRM_ERROR_NULL; ::SRM_ERROR_PAGE where the page's creator is past 31; ::SRM_ERROR_MEMBER
+ *         where `source` is past 31; ::SRM_ERROR_EMPTY
+ */
+SRM_CHECKED SRM_API int srm_agent_known(srm_agent *agent, srm_page page, unsigned source, uint32_t *known);
+
+/**
+ * Writes how many of a source's strokes on a page are missing: the member knows that they exist, and does not hold them.
+ *
+ * @param agent       the agent
+ * @param page        the page; it need not be in the table
+ * @param source      0 to 31; it need not be below `members`
+ * @param[out] count  how many, at most ::SRM_STROKES_MAX
+ * @return ::SRM_OK, or the first of these that holds: ::SRM_ERROR_NULL; ::SRM_ERROR_PAGE where the page's creator is past 31; ::SRM_ERROR_MEMBER
+ *         where `source` is past 31; ::SRM_ERROR_EMPTY
+ */
+SRM_CHECKED SRM_API int srm_agent_missing(srm_agent *agent, srm_page page, unsigned source, uint32_t *count);
+
+/**
+ * Writes the number of the first missing stroke of a source on a page above a number. Begin with 0 and go on with what it wrote, to find all.
+ *
+ * @param agent        the agent
+ * @param page         the page; it need not be in the table
+ * @param source       0 to 31; it need not be below `members`
+ * @param after        any number
+ * @param[out] number  the number of the stroke, above `after`
+ * @return ::SRM_OK, or the first of these that holds: ::SRM_ERROR_NULL; ::SRM_ERROR_PAGE where the page's creator is past 31; ::SRM_ERROR_MEMBER
+ *         where `source` is past 31; ::SRM_ERROR_EMPTY; ::SRM_NOTHING where none is missing above `after`
+ */
+SRM_CHECKED SRM_API int srm_agent_next_missing(srm_agent *agent, srm_page page, unsigned source, uint32_t after, uint32_t *number);
+
+/** What a member misses, when its timers expire, what waits to be sent, and whether it takes part. */
+typedef struct srm_outstanding {
+    uint64_t next_request_at; /**< When the first request timer expires, in microseconds; ::SRM_NEVER where none runs, and so nothing is missing. */
+    uint64_t next_repair_at;  /**< When the first repair timer expires, in microseconds; ::SRM_NEVER where none runs. */
+    size_t waiting_shown;     /**< Requests and repairs for the page shown that wait until the rate lets them go. */
+    size_t waiting_new;       /**< Strokes of its own that wait. */
+    size_t waiting_other;     /**< Requests and repairs for other pages that wait. */
+    uint32_t missing;         /**< Strokes that are missing, of all sources and on all pages. */
+    uint8_t state;            /**< One of ::srm_state. */
+} srm_outstanding;
+
+/**
+ * Writes what is outstanding. A member that stays for others may go once no repair timer runs and nothing waits.
+ *
+ * @param agent             the agent
+ * @param[out] outstanding  what is outstanding
+ * @return ::SRM_OK; ::SRM_ERROR_NULL; ::SRM_ERROR_EMPTY
+ */
+SRM_CHECKED SRM_API int srm_agent_outstanding(srm_agent *agent, srm_outstanding *outstanding);
+
 /** What a message of a page's feed is. */
 enum srm_message_kind {
     SRM_MESSAGE_OPEN = 1, /**< `name.page` is the slot's page. It comes first. */

@@ -3,8 +3,8 @@
  * refused call changed nothing; and what it would have written stays. `careless CALLS SEED`. */
 #include "check.h"
 
-enum { MEMBERS = 3, KEPT = 32, FUNCTIONS = 11 };
-enum function { DRAW, SHOW, LEAVE, HEAR, TICK, DATAGRAM, REQUEST, REPAIR, NEW_PAGE, DISTANCE, GIVE };
+enum { MEMBERS = 3, KEPT = 32, FUNCTIONS = 15 };
+enum function { DRAW, SHOW, LEAVE, HEAR, TICK, DATAGRAM, REQUEST, REPAIR, NEW_PAGE, DISTANCE, KNOWN, MISSING, NEXT_MISSING, OUTSTANDING, GIVE };
 
 /* What a call is passed. */
 struct given {
@@ -26,6 +26,8 @@ struct out {
     srm_heard heard;
     srm_ticked ticked;
     uint64_t distance;
+    uint32_t count;
+    srm_outstanding outstanding;
     srm_message message;
 };
 
@@ -50,6 +52,10 @@ static int call(srm_agent *agent, const struct given *g, struct out *to)
     case REPAIR: return srm_agent_next_repair(agent, g->has_out ? &to->name : NULL);
     case NEW_PAGE: return srm_agent_new_page(agent, g->has_out ? &to->page : NULL);
     case DISTANCE: return srm_agent_distance(agent, g->number, g->has_out ? &to->distance : NULL);
+    case KNOWN: return srm_agent_known(agent, g->page, g->number, g->has_out ? &to->count : NULL);
+    case MISSING: return srm_agent_missing(agent, g->page, g->number, g->has_out ? &to->count : NULL);
+    case NEXT_MISSING: return srm_agent_next_missing(agent, g->page, g->number, (uint32_t)length, g->has_out ? &to->count : NULL);
+    case OUTSTANDING: return srm_agent_outstanding(agent, g->has_out ? &to->outstanding : NULL);
     default: return srm_agent_give(agent, g->number, g->has_out ? &to->message : NULL);
     }
 }
@@ -65,9 +71,10 @@ static int refusal(const struct given *g)
         return SRM_ERROR_LENGTH;
     if (g->function <= TICK && g->now > SRM_MOMENT_MAX)
         return SRM_ERROR_MOMENT;
-    if (g->function <= SHOW && g->page.creator >= SRM_MEMBERS_MAX)
+    bool has_stream = g->function == KNOWN || g->function == MISSING || g->function == NEXT_MISSING;
+    if ((g->function <= SHOW || has_stream) && g->page.creator >= SRM_MEMBERS_MAX)
         return SRM_ERROR_PAGE;
-    if (g->function == DISTANCE && g->number >= SRM_MEMBERS_MAX)
+    if ((g->function == DISTANCE || has_stream) && g->number >= SRM_MEMBERS_MAX)
         return SRM_ERROR_MEMBER;
     if (g->function == GIVE && g->number >= SRM_SLOTS)
         return SRM_ERROR_SLOT;
@@ -107,7 +114,10 @@ static bool alike(const struct out *a, const struct out *b)
            a->page.creator == b->page.creator && a->page.number == b->page.number && a->heard.timers == b->heard.timers &&
            a->heard.cause == b->heard.cause && a->heard.fault == b->heard.fault && a->ticked.requests == b->ticked.requests &&
            a->ticked.repairs == b->ticked.repairs && a->ticked.datagrams == b->ticked.datagrams && a->ticked.state == b->ticked.state &&
-           a->distance == b->distance && m->kind == n->kind && m->stamp == n->stamp && m->length == n->length &&
+           a->distance == b->distance && a->count == b->count && a->outstanding.next_request_at == b->outstanding.next_request_at &&
+           a->outstanding.next_repair_at == b->outstanding.next_repair_at && a->outstanding.waiting_shown == b->outstanding.waiting_shown &&
+           a->outstanding.waiting_new == b->outstanding.waiting_new && a->outstanding.waiting_other == b->outstanding.waiting_other &&
+           a->outstanding.missing == b->outstanding.missing && a->outstanding.state == b->outstanding.state && m->kind == n->kind && m->stamp == n->stamp && m->length == n->length &&
            m->name.page.creator == n->name.page.creator && m->name.page.number == n->name.page.number && m->name.source == n->name.source && m->name.number == n->name.number && memcmp(m->body, n->body, sizeof m->body) == 0;
 }
 

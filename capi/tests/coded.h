@@ -27,6 +27,10 @@
 #define srm_agent_next_request(...) CODED("srm_agent_next_request", srm_agent_next_request(__VA_ARGS__))
 #define srm_agent_next_repair(...) CODED("srm_agent_next_repair", srm_agent_next_repair(__VA_ARGS__))
 #define srm_agent_distance(...) CODED("srm_agent_distance", srm_agent_distance(__VA_ARGS__))
+#define srm_agent_known(...) CODED("srm_agent_known", srm_agent_known(__VA_ARGS__))
+#define srm_agent_missing(...) CODED("srm_agent_missing", srm_agent_missing(__VA_ARGS__))
+#define srm_agent_next_missing(...) CODED("srm_agent_next_missing", srm_agent_next_missing(__VA_ARGS__))
+#define srm_agent_outstanding(...) CODED("srm_agent_outstanding", srm_agent_outstanding(__VA_ARGS__))
 #define srm_agent_give(...) CODED("srm_agent_give", srm_agent_give(__VA_ARGS__))
 
 #endif

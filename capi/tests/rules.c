@@ -155,10 +155,12 @@ static void nobody(void)
     srm_heard heard;
     srm_ticked ticked;
     srm_message message;
+    srm_outstanding outstanding;
+    uint32_t number;
     srm_agent_free(NULL);
     for (int i = 0; i < 2; i++) {
         int code = i ? SRM_ERROR_EMPTY : SRM_ERROR_NULL;
-        FILL(room), FILL(length), FILL(name), FILL(page), FILL(heard), FILL(ticked), FILL(message), FILL(distance);
+        FILL(room), FILL(length), FILL(name), FILL(page), FILL(heard), FILL(ticked), FILL(message), FILL(distance), FILL(outstanding), FILL(number);
         WANT(srm_agent_draw(none[i], SRM_FIRST_PAGE, "x", 1, 0, &name), code);
         WANT(srm_agent_show(none[i], SRM_FIRST_PAGE, 0), code);
         WANT(srm_agent_leave(none[i], 0), code);
@@ -169,6 +171,10 @@ static void nobody(void)
         WANT(srm_agent_next_repair(none[i], &name), code);
         WANT(srm_agent_new_page(none[i], &page), code);
         WANT(srm_agent_distance(none[i], 0, &distance), code);
+        WANT(srm_agent_known(none[i], SRM_FIRST_PAGE, 0, &number), code);
+        WANT(srm_agent_missing(none[i], SRM_FIRST_PAGE, 0, &number), code);
+        WANT(srm_agent_next_missing(none[i], SRM_FIRST_PAGE, 0, 0, &number), code);
+        WANT(srm_agent_outstanding(none[i], &outstanding), code);
         WANT(srm_agent_give(none[i], 0, &message), code);
         WANT(srm_agent_next_due(none[i]) == SRM_NEVER, 1);
         WANT(srm_agent_admits_from(none[i], 1) == SRM_NEVER, 1);
@@ -182,6 +188,8 @@ static void nobody(void)
         STAYS(ticked);
         STAYS(message);
         STAYS(distance);
+        STAYS(outstanding);
+        STAYS(number);
     }
     WANT(zeroes[0] | zeroes[1] | zeroes[2] | zeroes[3], 0);
 }
@@ -193,11 +201,12 @@ static void refusals(void)
     const uint64_t late = SRM_MOMENT_MAX + 1;
     srm_agent *a = agent_of(0, 2);
     uint64_t due = srm_agent_next_due(a), distance;
+    uint32_t number;
     srm_name name;
     srm_heard heard;
     srm_ticked ticked;
     srm_message message;
-    FILL(name), FILL(heard), FILL(ticked), FILL(message), FILL(distance);
+    FILL(name), FILL(heard), FILL(ticked), FILL(message), FILL(distance), FILL(number);
     WANT(srm_agent_draw(a, SRM_FIRST_PAGE, NULL, 1, 0, &name), SRM_ERROR_NULL);
     WANT(srm_agent_draw(a, SRM_FIRST_PAGE, "x", (size_t)PTRDIFF_MAX + 1, 0, &name), SRM_ERROR_LENGTH);
     WANT(srm_agent_draw(a, SRM_FIRST_PAGE, "x", SIZE_MAX, 0, &name), SRM_ERROR_LENGTH);
@@ -216,6 +225,18 @@ static void refusals(void)
     WANT(srm_agent_distance(a, 1, NULL), SRM_ERROR_NULL);
     WANT(srm_agent_distance(a, 32, &distance), SRM_ERROR_MEMBER);
     WANT(srm_agent_distance(a, 256, &distance), SRM_ERROR_MEMBER);
+    WANT(srm_agent_known(a, SRM_FIRST_PAGE, 0, NULL), SRM_ERROR_NULL);
+    WANT(srm_agent_known(a, (srm_page){32, 0}, 32, &number), SRM_ERROR_PAGE);
+    WANT(srm_agent_known(a, SRM_FIRST_PAGE, 32, &number), SRM_ERROR_MEMBER);
+    WANT(srm_agent_known(a, SRM_FIRST_PAGE, 256, &number), SRM_ERROR_MEMBER);
+    WANT(srm_agent_missing(a, SRM_FIRST_PAGE, 0, NULL), SRM_ERROR_NULL);
+    WANT(srm_agent_missing(a, (srm_page){32, 0}, 32, &number), SRM_ERROR_PAGE);
+    WANT(srm_agent_missing(a, SRM_FIRST_PAGE, 32, &number), SRM_ERROR_MEMBER);
+    WANT(srm_agent_next_missing(a, SRM_FIRST_PAGE, 0, 0, NULL), SRM_ERROR_NULL);
+    WANT(srm_agent_next_missing(a, (srm_page){32, 0}, 32, 0, &number), SRM_ERROR_PAGE);
+    WANT(srm_agent_next_missing(a, SRM_FIRST_PAGE, UINT32_MAX, 0, &number), SRM_ERROR_MEMBER);
+    WANT(srm_agent_next_missing(a, SRM_FIRST_PAGE, 0, 0, &number), SRM_NOTHING);
+    WANT(srm_agent_outstanding(a, NULL), SRM_ERROR_NULL);
     WANT(srm_agent_give(a, 8, &message), SRM_ERROR_SLOT);
     WANT(srm_agent_give(a, 256, &message), SRM_ERROR_SLOT);
     WANT(srm_agent_give(a, 0, NULL), SRM_ERROR_NULL);
@@ -229,6 +250,7 @@ static void refusals(void)
     STAYS(ticked);
     STAYS(message);
     STAYS(distance);
+    STAYS(number);
     WANT(srm_agent_next_due(a), due);
     WANT(srm_agent_state(a), SRM_ACTIVE);
     WANT(srm_agent_tick(a, due, &ticked), SRM_OK);
@@ -495,6 +517,77 @@ static void leaving(void)
     srm_agent_free(b);
 }
 
+static srm_outstanding outstanding_of(srm_agent *agent)
+{
+    srm_outstanding outstanding;
+    FILL(outstanding);
+    WANT(srm_agent_outstanding(agent, &outstanding), SRM_OK);
+    return outstanding;
+}
+
+/* What a member misses of a source on a page: how many, and their numbers. */
+static void misses(srm_agent *agent, srm_page page, unsigned source, uint32_t known, uint32_t count, const uint32_t *numbers)
+{
+    uint32_t told, number = 0;
+    WANT(srm_agent_known(agent, page, source, &told), SRM_OK);
+    WANT(told, known);
+    WANT(srm_agent_missing(agent, page, source, &told), SRM_OK);
+    WANT(told, count);
+    for (uint32_t i = 0; i < count; i++) {
+        WANT(srm_agent_next_missing(agent, page, source, number, &number), SRM_OK);
+        WANT(number, numbers[i]);
+    }
+    WANT(srm_agent_next_missing(agent, page, source, number, &number), SRM_NOTHING);
+    WANT(srm_agent_next_missing(agent, page, source, UINT32_MAX, &number), SRM_NOTHING);
+}
+
+/* Of four strokes the second and fourth come; the first is repaired. What waits in the bucket, and which timers run. */
+static void what_is_outstanding(void)
+{
+    static const uint32_t numbers[] = {1, 3};
+    srm_agent *a = agent_of(0, 2), *b = agent_of(1, 2);
+    uint8_t room[SRM_DATAGRAM_MAX];
+    size_t length;
+    srm_outstanding told = outstanding_of(a);
+    WANT(told.missing, 0);
+    WANT(told.next_request_at == SRM_NEVER && told.next_repair_at == SRM_NEVER, 1);
+    WANT(told.waiting_shown + told.waiting_new + told.waiting_other, 0);
+    WANT(told.state, SRM_ACTIVE);
+    for (int i = 0; i < 4; i++)
+        WANT(srm_agent_draw(a, SRM_FIRST_PAGE, "x", 1, 0, NULL), SRM_OK);
+    WANT(outstanding_of(a).waiting_new, 4);
+    misses(a, SRM_FIRST_PAGE, 0, 4, 0, NULL);
+    WANT(srm_agent_tick(a, 0, NULL), SRM_OK);
+    WANT(outstanding_of(a).waiting_new, 0);
+    for (int i = 1; i <= 4; i++) {
+        WANT(srm_agent_next_datagram(a, room, sizeof room, &length), SRM_OK);
+        if (i % 2 == 0)
+            WANT(srm_agent_hear(b, room, length, 0, NULL), SRM_OK);
+    }
+    misses(b, SRM_FIRST_PAGE, 0, 4, 2, numbers);
+    misses(b, SRM_FIRST_PAGE, 1, 0, 0, NULL);
+    misses(b, (srm_page){31, 65535}, 31, 0, 0, NULL);
+    told = outstanding_of(b);
+    WANT(told.missing, 2);
+    WANT(told.next_request_at, srm_agent_next_due(b));
+    WANT(told.next_repair_at == SRM_NEVER, 1);
+    WANT(srm_agent_tick(b, 400000, NULL), SRM_OK);
+    WANT(srm_agent_next_datagram(b, room, sizeof room, &length), SRM_OK);
+    WANT(srm_agent_hear(a, room, length, 400000, NULL), SRM_OK);
+    told = outstanding_of(a);
+    WANT(told.next_repair_at >= 500000 && told.next_repair_at <= 600000, 1); /* 1 to 2 distances later */
+    WANT(told.missing, 0);
+    WANT(srm_agent_tick(a, 600000, NULL), SRM_OK);
+    WANT(outstanding_of(a).next_repair_at == SRM_NEVER, 1);
+    WANT(srm_agent_next_datagram(a, room, sizeof room, &length), SRM_OK);
+    WANT(srm_agent_hear(b, room, length, 600000, NULL), SRM_OK);
+    misses(b, SRM_FIRST_PAGE, 0, 4, 1, numbers + 1);
+    WANT(srm_agent_leave(b, 600000), SRM_OK);
+    WANT(outstanding_of(b).state, SRM_LEAVING);
+    srm_agent_free(a);
+    srm_agent_free(b);
+}
+
 /* Names that a tick asks for and repairs, in order, and the distance that the waits go by. */
 static void requests(void)
 {
@@ -616,6 +709,7 @@ int main(void)
     hearing();
     leaving();
     requests();
+    what_is_outstanding();
     admitting();
     seeds();
     texts();

@@ -6,7 +6,7 @@ import re
 import sys
 
 TOP = pathlib.Path(__file__).resolve().parent.parent.parent
-STRUCTS = ("page", "name", "config", "heard", "ticked", "message")
+STRUCTS = ("page", "name", "config", "heard", "ticked", "outstanding", "message")
 # What each language calls a type of C.
 TYPES = {"u8": "uint8_t", "u16": "uint16_t", "u32": "uint32_t", "u64": "uint64_t", "usize": "size_t", "size_t": "size_t"}
 

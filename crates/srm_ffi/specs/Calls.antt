@@ -1,6 +1,8 @@
 -- What a call does to what a handle holds, which code it answers, and what it writes.
-use Rattle.std.specs.Prelude.{◌≡◌, ℕ, Bool, false, List, ◌++◌, length, drop, Option, Some, None, Result, Ok, Err, ⊤}
+use Rattle.std.specs.Prelude.{◌≡◌, ℕ, nat_le, if◌then◌else◌, Bool, false, List, ◌++◌, length, drop, Option, Some, None, Result, Ok, Err, ⊤}
+use Rattle.srm_names.specs.declared.limits.TheConstants.{MEMBERS}
 use Rattle.srm_names.specs.declared.page.Page.{Page}
+use Rattle.srm_names.specs.declared.stream.Stream.{Stream}
 use Rattle.srm_names.specs.declared.page_msg.PageMsg.{PageMsg}
 use Rattle.srm_names.specs.FullName.{FullName}
 use Rattle.srm_entries.specs.declared.fault.AgentFault.{AgentFault}
@@ -11,19 +13,22 @@ use Rattle.srm_entries.specs.Configs.{Config}
 use Rattle.srm_agent.specs.Fits.{AgentFits}
 use Rattle.srm_agent.specs.Waking.{NextDue}
 use Rattle.srm_agent.specs.Admitting.{DrawAdmitted, DrawAdmittedFrom}
+use Rattle.srm_agent.specs.Asking.{SaysOutstanding}
+use Rattle.srm_agent.specs.declared.outstanding.Outstanding.{Outstanding}
 use Rattle.srm_seat.specs.Seats.{IsNewSeat, SeatContent, SeededAgent}
-use Rattle.srm_seat.specs.Asking.{IsDistance, IsPageToCome, IsState}
+use Rattle.srm_seat.specs.Asking.{IsDistance, IsNextMissing, IsPageToCome, IsState}
 use Rattle.srm_seat.specs.Calls.{Draws, Gives, HearsBytes, laid_over, Leaves, Shows, TakesDatagram, TakesRepair, TakesRequest, Ticks}
 use Rattle.srm_seat.specs.declared.seat.Handover.{Handover}
 use Rattle.srm_seat.specs.declared.seat.Handover.TheVariants.{Nothing, Short, Copied}
-use Rattle.srm_ffi.specs.declared.codes.TheConstants.{DONE, EMPTY, FULL, NOTHING, PAGE, ROOM}
+use Rattle.srm_ffi.specs.declared.codes.TheConstants.{DONE, EMPTY, FULL, MEMBER, NOTHING, PAGE, ROOM}
 use Rattle.srm_ffi.specs.declared.shapes.RawHeard.{RawHeard}
 use Rattle.srm_ffi.specs.declared.shapes.RawMessage.{RawMessage}
 use Rattle.srm_ffi.specs.declared.shapes.RawName.{RawName}
+use Rattle.srm_ffi.specs.declared.shapes.RawOutstanding.{RawOutstanding}
 use Rattle.srm_ffi.specs.declared.shapes.RawPage.{RawPage}
 use Rattle.srm_ffi.specs.declared.shapes.RawTicked.{RawTicked}
 use Rattle.srm_ffi.specs.Codes.{code_of, fault_number, or_never, state_number}
-use Rattle.srm_ffi.specs.Shapes.{body_of, raw_heard, raw_message, raw_name, raw_page, raw_ticked}
+use Rattle.srm_ffi.specs.Shapes.{body_of, raw_heard, raw_message, raw_name, raw_outstanding, raw_page, raw_ticked}
 
 -- ---- what holds of all
 
@@ -140,3 +145,29 @@ AdmitsCall length now told = OnSeat (λ old new. (new ≡ old) × DrawAdmitted l
 abbrev pub AdmitsFromCall : ℕ → ℕ → Option SeatContent → Option SeatContent → Type 0
 AdmitsFromCall length told =
     OnSeat (λ old new. (new ≡ old) × (first : Option ℕ) × DrawAdmittedFrom length old.agent first × (told ≡ or_never first)) (told ≡ or_never None)
+
+-- the stream that C names; or that the page's creator is past 31, or else the source
+abbrev pub stream_named : ℕ → ℕ → ℕ → Result Stream ℕ
+stream_named creator number source =
+    if nat_le MEMBERS creator then Err PAGE
+    else if nat_le MEMBERS source then Err MEMBER
+    else Ok (record { source = source; page = record { creator = creator; number = number } })
+
+-- what the agent says of a stream is written
+abbrev pub StreamCall : (Stream → SeededAgent → ℕ → Type 0) → Result Stream ℕ → ℕ → ℕ → ℕ → Option SeatContent → Option SeatContent → Type 0
+StreamCall Says (Ok s) code before after = OnSeat (λ old new. (new ≡ old) × (code ≡ DONE) × Says s old.agent after) ((code ≡ EMPTY) × (after ≡ before))
+StreamCall Says (Err why) code before after = λ old new. IsRefused why code old new × (after ≡ before)
+
+-- the number of a name, or that there is none
+abbrev pub TellsNumber : Option FullName → ℕ → ℕ → ℕ → Type 0
+TellsNumber (Some name) code before after = (code ≡ DONE) × (after ≡ name.number)
+TellsNumber None code before after = (code ≡ NOTHING) × (after ≡ before)
+
+abbrev pub NextMissingCall : ℕ → Result Stream ℕ → ℕ → ℕ → ℕ → Option SeatContent → Option SeatContent → Type 0
+NextMissingCall above (Ok s) code before after =
+    OnSeat (λ old new. (new ≡ old) × (name : Option FullName) × IsNextMissing s above old.agent name × TellsNumber name code before after) ((code ≡ EMPTY) × (after ≡ before))
+NextMissingCall above (Err why) code before after = λ old new. IsRefused why code old new × (after ≡ before)
+
+abbrev pub OutstandingCall : ℕ → RawOutstanding → RawOutstanding → Option SeatContent → Option SeatContent → Type 0
+OutstandingCall code before after =
+    OnSeat (λ old new. (new ≡ old) × (code ≡ DONE) × (o : Outstanding) × SaysOutstanding old.agent o × (after ≡ raw_outstanding o)) ((code ≡ EMPTY) × (after ≡ before))

@@ -8,8 +8,9 @@ use Rattle.srm_entries.specs.declared.fault.AgentFault.TheVariants.{BodyLong}
 use Rattle.srm_entries.specs.declared.cause.Cause.TheVariants.{Decode, Stranger}
 use Rattle.srm_entries.specs.declared.cause.Outcome.TheVariants.{Taken, Ignored}
 use Rattle.srm_ffi.specs.Codes.{cause_of, code_of, decode_fault_of, or_never}
-use Rattle.srm_ffi.specs.Shapes.{body_of, raw_message}
-use Rattle.srm_ffi.specs.Calls.{written}
+use Rattle.srm_entries.specs.declared.state.AgentState.TheVariants.{Leaving}
+use Rattle.srm_ffi.specs.Shapes.{body_of, raw_message, raw_outstanding}
+use Rattle.srm_ffi.specs.Calls.{stream_named, written}
 
 -- ---- codes: what is ignored has its cause, and noise its fault too
 
@@ -52,3 +53,15 @@ left = refl
 
 bodies : map body_of (Draw drawn ∷ Close ∷ []) ≡ (8 ∷ 9 ∷ []) ∷ [] ∷ []
 bodies = refl
+
+-- ---- streams that C names: a creator that isn't there is refused before a source
+
+named_streams : map (λ (n : ℕ × ℕ). stream_named n.0 5 n.1) ((1, 3) ∷ (32, 32) ∷ (31, 32) ∷ [])
+    ≡ Ok (record { source = 3; page = record { creator = 1; number = 5 } }) ∷ Err 22 ∷ Err 26 ∷ []
+named_streams = refl
+
+-- ---- what is outstanding: a member that is leaving, with a request timer and three strokes that wait
+
+waits : raw_outstanding (record { missing = 2; next_request = Some 70; next_repair = None; waiting_shown = 0; waiting_new = 3; waiting_other = 0; state = Leaving })
+    ≡ record { next_request_at = 70; next_repair_at = 18446744073709551615; waiting_shown = 0; waiting_new = 3; waiting_other = 0; missing = 2; state = 2 }
+waits = refl

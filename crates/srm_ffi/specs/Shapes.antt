@@ -8,14 +8,16 @@ use Rattle.srm_names.specs.Names.{first_page}
 use Rattle.srm_entries.specs.Configs.{Config}
 use Rattle.srm_entries.specs.declared.settings.Settings.{Settings}
 use Rattle.srm_agent.specs.declared.heard.Heard.{Heard}
+use Rattle.srm_agent.specs.declared.outstanding.Outstanding.{Outstanding}
 use Rattle.srm_seat.specs.declared.seat.TickCounts.{TickCounts}
 use Rattle.srm_ffi.specs.declared.shapes.RawConfig.{RawConfig}
 use Rattle.srm_ffi.specs.declared.shapes.RawHeard.{RawHeard}
 use Rattle.srm_ffi.specs.declared.shapes.RawMessage.{RawMessage}
 use Rattle.srm_ffi.specs.declared.shapes.RawName.{RawName}
+use Rattle.srm_ffi.specs.declared.shapes.RawOutstanding.{RawOutstanding}
 use Rattle.srm_ffi.specs.declared.shapes.RawPage.{RawPage}
 use Rattle.srm_ffi.specs.declared.shapes.RawTicked.{RawTicked}
-use Rattle.srm_ffi.specs.Codes.{cause_of, decode_fault_of, state_number}
+use Rattle.srm_ffi.specs.Codes.{cause_of, decode_fault_of, or_never, state_number}
 
 abbrev pub config_of : RawConfig → Config
 config_of raw = record { me = raw.me; members = raw.members; session = raw.session; rate = raw.rate; depth = raw.depth; c1 = raw.c1; c2 = raw.c2; d1 = raw.d1; d2 = raw.d2; least_distance = raw.least_distance }
@@ -35,6 +37,17 @@ raw_heard heard = record { timers = length heard.arms; cause = cause_of heard.ou
 
 abbrev pub raw_ticked : TickCounts → RawTicked
 raw_ticked counts = record { requests = counts.requests; repairs = counts.repairs; datagrams = counts.datagrams; state = state_number counts.state }
+
+abbrev pub raw_outstanding : Outstanding → RawOutstanding
+raw_outstanding o = record {
+  next_request_at = or_never o.next_request;
+  next_repair_at = or_never o.next_repair;
+  waiting_shown = o.waiting_shown;
+  waiting_new = o.waiting_new;
+  waiting_other = o.waiting_other;
+  missing = o.missing;
+  state = state_number o.state;
+}
 
 -- what the kind of a message does not speak of is 0
 abbrev pub raw_message : PageMsg → RawMessage

@@ -1,7 +1,7 @@
 //! Codes, as C reads them: 0 is done, 1 to 6 are the agent's faults, from 16 on the refusals of this interface.
 
 ghost use Rattle.std.specs.Prelude.{◌≡◌};
-ghost use Rattle.srm_ffi.specs.Codes.{cause_of, code_of, decode_fault_of, decode_number, fault_number, state_number};
+ghost use Rattle.srm_ffi.specs.Codes.{cause_of, code_of, decode_fault_of, decode_number, fault_number, or_never, state_number};
 
 use srm_agent::{AgentFault, AgentState, Cause, Outcome};
 use srm_codec::DecodeFault;
@@ -69,6 +69,13 @@ pub fn of_state(state: AgentState) -> u8
         AgentState::Leaving => 2,
         AgentState::Gone => 3,
     }
+}
+
+/// Returns a moment, or the greatest number if there is none.
+pub fn or_never(moment: Option<u64>) -> u64
+    ensures { result ≡ or_never moment }
+{
+    moment.unwrap_or(u64::MAX)
 }
 
 /// Returns why a datagram was ignored, 1 to 7; 0 if it was accepted.

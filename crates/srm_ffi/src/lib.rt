@@ -12,6 +12,7 @@ mod codes;
 mod drawing;
 mod giving;
 mod hearing;
+mod missing;
 mod opening;
 mod shapes;
 mod telling;

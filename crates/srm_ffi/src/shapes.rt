@@ -2,10 +2,10 @@
 
 ghost use Rattle.std.specs.Prelude.{◌≡◌, ◌↔◌, IfSome, IsSome};
 ghost use Rattle.srm_entries.specs.Configs.{IsConfig};
-ghost use Rattle.srm_ffi.specs.Shapes.{config_of, raw_heard, raw_message, raw_name, raw_page, raw_ticked};
+ghost use Rattle.srm_ffi.specs.Shapes.{config_of, raw_heard, raw_message, raw_name, raw_outstanding, raw_page, raw_ticked};
 
-use crate::codes::{cause_of, decode_fault_of, of_state};
-use srm_agent::{Config, Heard, Settings};
+use crate::codes::{cause_of, decode_fault_of, of_state, or_never};
+use srm_agent::{Config, Heard, Outstanding, Settings};
 use srm_names::{Member, Name, Page, PageMsg};
 use srm_seat::TickCounts;
 
@@ -81,6 +81,26 @@ pub struct RawTicked {
     pub repairs: usize,
     /// How many datagrams are to be sent.
     pub datagrams: usize,
+    /// Whether the member is active, 1, leaving, 2, or gone, 3.
+    pub state: u8,
+}
+
+/// What a member misses, when its timers expire, what waits to be sent, and whether it takes part.
+#[repr(C)]
+#[derive(Clone, Copy)]
+pub struct RawOutstanding {
+    /// When the first request timer expires, in microseconds; 2^64 - 1 if none runs, and so nothing is missing.
+    pub next_request_at: u64,
+    /// When the first repair timer expires, in microseconds; 2^64 - 1 if none runs.
+    pub next_repair_at: u64,
+    /// How many requests and repairs for the page shown wait to be sent.
+    pub waiting_shown: usize,
+    /// How many datagrams of new data wait to be sent.
+    pub waiting_new: usize,
+    /// How many requests and repairs for other pages wait to be sent.
+    pub waiting_other: usize,
+    /// How many names are missing, over all streams.
+    pub missing: u32,
     /// Whether the member is active, 1, leaving, 2, or gone, 3.
     pub state: u8,
 }
@@ -167,6 +187,23 @@ impl RawTicked {
             repairs: counts.repairs,
             datagrams: counts.datagrams,
             state: of_state(counts.state),
+        }
+    }
+}
+
+impl RawOutstanding {
+    /// Returns what is outstanding as C reads it.
+    pub fn of(outstanding: &Outstanding) -> RawOutstanding
+        ensures { result ≡ raw_outstanding outstanding.now }
+    {
+        RawOutstanding {
+            next_request_at: or_never(outstanding.next_request),
+            next_repair_at: or_never(outstanding.next_repair),
+            waiting_shown: outstanding.waiting_shown,
+            waiting_new: outstanding.waiting_new,
+            waiting_other: outstanding.waiting_other,
+            missing: outstanding.missing,
+            state: of_state(outstanding.state),
         }
     }
 }

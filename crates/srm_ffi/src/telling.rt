@@ -3,10 +3,9 @@
 ghost use Rattle.std.specs.Prelude.{◌≡◌, ◌≤◌, ◌<◌};
 ghost use Rattle.srm_names.specs.declared.limits.TheConstants.{MEMBERS};
 ghost use Rattle.srm_ffi.specs.declared.codes.TheConstants.{MEMBER};
-ghost use Rattle.srm_ffi.specs.Codes.{or_never};
 ghost use Rattle.srm_ffi.specs.Calls.{AdmitsCall, AdmitsFromCall, DistanceCall, DueCall, IsRefused, NewPageCall, StateCall, TellsPage};
 
-use crate::codes::{DONE, EMPTY, MEMBER, PAGE, of_state};
+use crate::codes::{DONE, EMPTY, MEMBER, PAGE, of_state, or_never};
 use crate::shapes::RawPage;
 use srm_names::{Member, Page};
 use srm_seat::Handle;
@@ -118,11 +117,4 @@ pub extern "C" fn srm_raw_admits_from(alloc: Global, handle: &mut Handle, length
     let first = seat.admits_draw_from(length);
     handle.put(seat);
     or_never(first)
-}
-
-/// Returns a moment, or the greatest number if there is none.
-fn or_never(moment: Option<u64>) -> u64
-    ensures { result ≡ or_never moment }
-{
-    moment.unwrap_or(u64::MAX)
 }

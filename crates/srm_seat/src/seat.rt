@@ -4,14 +4,15 @@ ghost use Rattle.std.specs.Prelude.{◌≡◌, ◌≤◌, ◌<◌, IfOk};
 ghost use Rattle.srm_names.specs.declared.limits.TheConstants.{LATEST_MOMENT, LONGEST_DISTANCE, PAGES};
 ghost use Rattle.srm_agent.specs.Waking.{NextDue};
 ghost use Rattle.srm_agent.specs.Admitting.{DrawAdmitted, DrawAdmittedFrom};
+ghost use Rattle.srm_agent.specs.Asking.{SaysOutstanding};
 ghost use Rattle.srm_seat.specs.Seats.{IsNewSeat};
-ghost use Rattle.srm_seat.specs.Asking.{IsDistance, IsPageToCome, IsState};
+ghost use Rattle.srm_seat.specs.Asking.{IsDistance, IsKnown, IsMissing, IsNextMissing, IsPageToCome, IsState};
 ghost use Rattle.srm_seat.specs.Calls.{counts_of, Draws, Gives, HearsBytes, Leaves, Shows, TakesDatagram, TakesRepair, TakesRequest, Ticks};
 
 use crate::rooms::lay_over;
 use bytes::Bytes;
-use srm_agent::{Agent, AgentFault, AgentState, Config, Heard, Out, Ticked};
-use srm_names::{Member, Name, Page, PageMsg};
+use srm_agent::{Agent, AgentFault, AgentState, Config, Heard, Out, Outstanding, Ticked};
+use srm_names::{Member, Name, Page, PageMsg, Stream};
 use srm_timers::Pcg;
 use std::alloc::{AllocError, Global};
 use std::collections::VecDeque;
@@ -210,6 +211,34 @@ impl Seat {
         ensures { DrawAdmittedFrom length self.now.agent result }
     {
         self.agent.admits_draw_from(length)
+    }
+
+    /// Returns the greatest number of a stream that the member knows to exist, or 0, as [`Agent::known`] does.
+    pub fn known(&self, stream: Stream) -> u32
+        ensures { IsKnown stream self.now.agent result }
+    {
+        self.agent.known(stream)
+    }
+
+    /// Returns how many names of a stream are missing, as [`Agent::missing_of`] does.
+    pub fn missing_of(&self, stream: Stream) -> u32
+        ensures { IsMissing stream self.now.agent result }
+    {
+        self.agent.missing_of(stream)
+    }
+
+    /// Returns the first missing name of a stream above a number, as [`Agent::next_missing`] does.
+    pub fn next_missing(&self, stream: Stream, after: u32) -> Option<Name>
+        ensures { IsNextMissing stream after self.now.agent result }
+    {
+        self.agent.next_missing(stream, after)
+    }
+
+    /// Returns what the member misses, when its timers expire, what waits to be sent, and whether it takes part, as [`Agent::outstanding`] does.
+    pub fn outstanding(&self) -> Outstanding
+        ensures { SaysOutstanding self.now.agent result }
+    {
+        self.agent.outstanding()
     }
 }
 

@@ -35,6 +35,10 @@ class Calls(unittest.TestCase):
                 self.assertRaises(ringyew.SlotError, a.give, slot)
             for member in (32, 256, 2**32, -1):
                 self.assertRaises(ringyew.MemberError, a.distance, member)
+                self.assertRaises(ringyew.MemberError, a.known, member)
+                self.assertRaises(ringyew.MemberError, a.missing, member)
+                self.assertRaises(ringyew.MemberError, a.next_missing, member)
+            self.assertRaises(ringyew.PageError, a.known, 32, Page(32, 0))
             with self.assertRaises(ringyew.BodyLongError) as refused:
                 a.draw(bytes(ringyew.BODY_MAX + 1), 0)
             self.assertEqual((refused.exception.code, str(refused.exception)), (5, "the body is too long"))
@@ -71,6 +75,19 @@ class Calls(unittest.TestCase):
             self.assertEqual(drawer.tick(600_000), (0, 2, 2, State.ACTIVE))
             self.assertEqual(list(drawer.repairs()), names)
             self.assertEqual(len(list(drawer.datagrams())), 2)
+
+    def test_a_member_is_asked_what_it_misses(self) -> None:
+        with agent(0) as drawer, agent(1) as listener:
+            for _ in range(4):
+                drawer.draw(b"x", 0)
+            self.assertEqual(drawer.outstanding, (0, None, None, 0, 4, 0, State.ACTIVE))
+            drawer.tick(0)
+            for datagram in list(drawer.datagrams())[1::2]:
+                listener.hear(datagram, 0)
+            self.assertEqual((listener.known(0), listener.missing(0)), (4, 2))
+            self.assertEqual([listener.next_missing(0, after) for after in (0, 1, 3, 2**64)], [1, 3, None, None])
+            self.assertEqual((listener.known(0, Page(1, 0)), listener.next_missing(1)), (0, None))
+            self.assertEqual(listener.outstanding, (2, listener.next_due, None, 0, 0, 0, State.ACTIVE))
 
     def test_the_rate_says_from_when_on_it_admits(self) -> None:
         with agent() as a:

@@ -6,6 +6,7 @@ use crate::error::Error;
 use crate::heard::{Heard, State, Ticked};
 use crate::message::Message;
 use crate::names::{Name, Page};
+use crate::outstanding::Outstanding;
 use crate::sys;
 use std::fmt;
 use std::time::Duration;
@@ -154,6 +155,40 @@ impl Agent {
         self.handle.distance(member).map_err(Error::of)
     }
 
+    /// The greatest number that the member knows to exist of a source's strokes on a page, or 0.
+    ///
+    /// # Errors
+    /// The first that holds: [`Error::Page`], [`Error::Member`].
+    pub fn known(&mut self, page: Page, source: u8) -> Result<u32, Error> {
+        self.handle.known(page.raw(), source).map_err(Error::of)
+    }
+
+    /// How many of a source's strokes on a page are missing: the member knows that they exist, and doesn't hold them.
+    ///
+    /// # Errors
+    /// The first that holds: [`Error::Page`], [`Error::Member`].
+    pub fn missing(&mut self, page: Page, source: u8) -> Result<u32, Error> {
+        self.handle.missing(page.raw(), source).map_err(Error::of)
+    }
+
+    /// The number of the first missing stroke of a source on a page above a number; `None` where none is. Begin with 0 and go on with what it returns,
+    /// to find all.
+    ///
+    /// # Errors
+    /// The first that holds: [`Error::Page`], [`Error::Member`].
+    pub fn next_missing(&mut self, page: Page, source: u8, after: u32) -> Result<Option<u32>, Error> {
+        match self.handle.next_missing(page.raw(), source, after) {
+            Ok(number) => Ok(Some(number)),
+            Err(sys::NOTHING) => Ok(None),
+            Err(code) => Err(Error::of(code)),
+        }
+    }
+
+    /// What the member misses, when its timers expire, what waits to be sent, and whether it takes part.
+    pub fn outstanding(&mut self) -> Outstanding {
+        Outstanding::of(self.handle.outstanding())
+    }
+
     /// Takes the next message of a slot, 0 to 7; `None` where there is none. Of each source the strokes come in order, each once.
     ///
     /// # Errors
@@ -178,7 +213,7 @@ impl fmt::Debug for Agent {
     }
 }
 
-fn or_none(moment: u64) -> Option<u64> {
+pub(crate) fn or_none(moment: u64) -> Option<u64> {
     (moment != sys::NEVER).then_some(moment)
 }
 

@@ -34,6 +34,7 @@ mod error;
 mod heard;
 mod message;
 mod names;
+mod outstanding;
 mod sys;
 
 pub use agent::{Agent, Datagrams, Messages, Repairs, Requests};
@@ -42,6 +43,7 @@ pub use error::Error;
 pub use heard::{Cause, Heard, State, Ticked};
 pub use message::Message;
 pub use names::{Name, Page};
+pub use outstanding::Outstanding;
 pub use sys::{BODY_MAX, DATAGRAM_MAX, MEMBERS_MAX, MOMENT_MAX, SLOTS, STROKES_MAX};
 
 /// The version of `libsrm`, as `0.1.0`.

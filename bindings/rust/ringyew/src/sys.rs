@@ -80,6 +80,18 @@ pub struct Ticked {
 }
 
 #[repr(C)]
+#[derive(Clone, Copy, Default)]
+pub struct Outstanding {
+    pub next_request_at: u64,
+    pub next_repair_at: u64,
+    pub waiting_shown: usize,
+    pub waiting_new: usize,
+    pub waiting_other: usize,
+    pub missing: u32,
+    pub state: u8,
+}
+
+#[repr(C)]
 #[derive(Clone, Copy)]
 pub struct Message {
     pub stamp: u64,
@@ -109,6 +121,10 @@ unsafe extern "C" {
     fn srm_agent_next_due(agent: *mut Agent) -> u64;
     fn srm_agent_state(agent: *mut Agent) -> c_int;
     fn srm_agent_distance(agent: *mut Agent, member: c_uint, distance: *mut u64) -> c_int;
+    fn srm_agent_known(agent: *mut Agent, page: Page, source: c_uint, known: *mut u32) -> c_int;
+    fn srm_agent_missing(agent: *mut Agent, page: Page, source: c_uint, count: *mut u32) -> c_int;
+    fn srm_agent_next_missing(agent: *mut Agent, page: Page, source: c_uint, after: u32, number: *mut u32) -> c_int;
+    fn srm_agent_outstanding(agent: *mut Agent, outstanding: *mut Outstanding) -> c_int;
     fn srm_agent_give(agent: *mut Agent, slot: c_uint, message: *mut Message) -> c_int;
 }
 
@@ -226,6 +242,31 @@ impl Handle {
         let mut distance = 0;
         let code = unsafe { srm_agent_distance(self.at(), member.into(), &mut distance) };
         done(code, distance)
+    }
+
+    pub fn known(&mut self, page: Page, source: u8) -> Result<u32, c_int> {
+        let mut known = 0;
+        let code = unsafe { srm_agent_known(self.at(), page, source.into(), &mut known) };
+        done(code, known)
+    }
+
+    pub fn missing(&mut self, page: Page, source: u8) -> Result<u32, c_int> {
+        let mut count = 0;
+        let code = unsafe { srm_agent_missing(self.at(), page, source.into(), &mut count) };
+        done(code, count)
+    }
+
+    pub fn next_missing(&mut self, page: Page, source: u8, after: u32) -> Result<u32, c_int> {
+        let mut number = 0;
+        let code = unsafe { srm_agent_next_missing(self.at(), page, source.into(), after, &mut number) };
+        done(code, number)
+    }
+
+    pub fn outstanding(&mut self) -> Outstanding {
+        let mut outstanding = Outstanding::default();
+        // It is refused only where there is no agent.
+        let _ = unsafe { srm_agent_outstanding(self.at(), &mut outstanding) };
+        outstanding
     }
 
     pub fn give(&mut self, slot: u8) -> Result<Message, c_int> {

@@ -38,6 +38,9 @@ fn calls_that_break_a_rule_are_refused() {
     assert_eq!(agent.show(Page::FIRST, MOMENT_MAX + 1), Err(Error::Moment));
     assert_eq!(agent.give(8), Err(Error::Slot));
     assert_eq!(agent.distance(32), Err(Error::Member));
+    assert_eq!(agent.known(far, 32), Err(Error::Page));
+    assert_eq!(agent.missing(Page::FIRST, 32), Err(Error::Member));
+    assert_eq!(agent.next_missing(Page::FIRST, 32, 0), Err(Error::Member));
     assert_eq!(agent.messages(8).next(), Some(Err(Error::Slot)));
 }
 
@@ -109,6 +112,27 @@ fn a_loss_is_requested_and_repaired() {
     assert_eq!((ticked.requests, ticked.repairs, ticked.datagrams), (0, 2, 2));
     assert!(drawer.repairs().eq(names));
     assert_eq!(drawer.datagrams().count(), 2);
+}
+
+#[test]
+fn a_member_is_asked_what_it_misses() {
+    let (mut drawer, mut listener) = (agent(0), agent(1));
+    for _ in 0..4 {
+        drawer.draw(Page::FIRST, b"x", 0).unwrap();
+    }
+    assert_eq!(drawer.outstanding().waiting_new, 4);
+    drawer.tick(0).unwrap();
+    for datagram in drawer.datagrams().skip(1).step_by(2) {
+        listener.hear(&datagram, 0).unwrap();
+    }
+    assert_eq!((listener.known(Page::FIRST, 0), listener.missing(Page::FIRST, 0)), (Ok(4), Ok(2)));
+    let above = [0, 1, 3].map(|after| listener.next_missing(Page::FIRST, 0, after));
+    assert_eq!(above, [Ok(Some(1)), Ok(Some(3)), Ok(None)]);
+    let outstanding = listener.outstanding();
+    assert_eq!((outstanding.missing, outstanding.next_request_at, outstanding.next_repair_at), (2, listener.next_due(), None));
+    assert_eq!((outstanding.waiting_shown, outstanding.waiting_new, outstanding.waiting_other), (0, 0, 0));
+    listener.leave(0).unwrap();
+    assert_eq!(listener.outstanding().state, State::Leaving);
 }
 
 #[test]

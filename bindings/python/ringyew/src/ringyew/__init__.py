@@ -31,7 +31,7 @@ from ringyew._errors import (
     StreamFullError,
 )
 from ringyew._library import BODY_MAX, DATAGRAM_MAX, MEMBERS_MAX, MOMENT_MAX, SLOTS, STROKES_MAX, library_version
-from ringyew._values import FIRST_PAGE, Cause, Close, Draw, Heard, Left, Message, Name, Open, Page, State, Ticked
+from ringyew._values import FIRST_PAGE, Cause, Close, Draw, Heard, Left, Message, Name, Open, Outstanding, Page, State, Ticked
 
 __all__ = [
     "BODY_MAX",
@@ -57,6 +57,7 @@ __all__ = [
     "MomentError",
     "Name",
     "Open",
+    "Outstanding",
     "Page",
     "PageError",
     "PageLimitError",

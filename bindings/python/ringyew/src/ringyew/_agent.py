@@ -5,8 +5,8 @@ from collections.abc import Callable, Iterator
 from types import TracebackType
 
 from ringyew._errors import ConfigError, MemberError, MomentError, PageError, SlotError, check
-from ringyew._library import BODY_MAX, DATAGRAM_MAX, NEVER, NOTHING, OK, RawConfig, RawHeard, RawMessage, RawName, RawPage, RawTicked, library
-from ringyew._values import FIRST_PAGE, Cause, Close, Draw, Heard, Left, Message, Name, Open, Page, State, Ticked
+from ringyew._library import BODY_MAX, DATAGRAM_MAX, NEVER, NOTHING, OK, STROKES_MAX, RawConfig, RawHeard, RawMessage, RawName, RawOutstanding, RawPage, RawTicked, library
+from ringyew._values import FIRST_PAGE, Cause, Close, Draw, Heard, Left, Message, Name, Open, Outstanding, Page, State, Ticked
 
 
 class Agent:
@@ -143,10 +143,45 @@ class Agent:
     def distance(self, member: int) -> int:
         """The one-way distance to a member in microseconds. Timers wait for multiples of it."""
         distance = ctypes.c_uint64()
-        if not 0 <= member < 2**32:
-            raise MemberError(26)
-        check(library.srm_agent_distance(self._agent, member, distance))
+        check(library.srm_agent_distance(self._agent, _member(member), distance))
         return distance.value
+
+    def known(self, source: int, page: Page = FIRST_PAGE) -> int:
+        """The greatest number that the member knows to exist of a source's strokes on a page, or 0."""
+        known = ctypes.c_uint32()
+        check(library.srm_agent_known(self._agent, _raw_page(page), _member(source), known))
+        return known.value
+
+    def missing(self, source: int, page: Page = FIRST_PAGE) -> int:
+        """How many of a source's strokes on a page are missing: the member knows that they exist, and doesn't hold them."""
+        count = ctypes.c_uint32()
+        check(library.srm_agent_missing(self._agent, _raw_page(page), _member(source), count))
+        return count.value
+
+    def next_missing(self, source: int, after: int = 0, page: Page = FIRST_PAGE) -> int | None:
+        """The number of the first missing stroke of a source on a page above a number; None where none is. Begin with 0 and go on with what it
+        returns, to find all."""
+        number = ctypes.c_uint32()
+        code: int = library.srm_agent_next_missing(self._agent, _raw_page(page), _member(source), min(after, STROKES_MAX), number)
+        if code == NOTHING:
+            return None
+        check(code)
+        return number.value
+
+    @property
+    def outstanding(self) -> Outstanding:
+        """What the member misses, when its timers expire, what waits to be sent, and whether it takes part."""
+        raw = RawOutstanding()
+        check(library.srm_agent_outstanding(self._agent, raw))
+        return Outstanding(
+            raw.missing,
+            _or_none(raw.next_request_at),
+            _or_none(raw.next_repair_at),
+            raw.waiting_shown,
+            raw.waiting_new,
+            raw.waiting_other,
+            State(raw.state),
+        )
 
     def give(self, slot: int) -> Message | None:
         """Takes the next message of a slot, 0 to 7; None where there is none. Of each source the strokes come in order, each once."""
@@ -176,6 +211,12 @@ def _moment(now: int) -> int:
     if not 0 <= now < 2**64:
         raise MomentError(17)
     return now
+
+
+def _member(member: int) -> int:
+    if not 0 <= member < 2**32:
+        raise MemberError(26)
+    return member
 
 
 def _length(length: int) -> int:

@@ -64,6 +64,25 @@ class RawTicked(Structure):
     state: int
 
 
+class RawOutstanding(Structure):
+    _fields_ = [
+        ("next_request_at", c_uint64),
+        ("next_repair_at", c_uint64),
+        ("waiting_shown", c_size_t),
+        ("waiting_new", c_size_t),
+        ("waiting_other", c_size_t),
+        ("missing", c_uint32),
+        ("state", c_uint8),
+    ]
+    next_request_at: int
+    next_repair_at: int
+    waiting_shown: int
+    waiting_new: int
+    waiting_other: int
+    missing: int
+    state: int
+
+
 class RawMessage(Structure):
     _fields_ = [("stamp", c_uint64), ("length", c_size_t), ("name", RawName), ("kind", c_uint8), ("body", c_uint8 * BODY_MAX)]
     stamp: int
@@ -118,6 +137,10 @@ _SIGNATURES: list[tuple[str, Any, list[Any]]] = [
     ("srm_agent_next_due", c_uint64, [_AGENT]),
     ("srm_agent_state", c_int, [_AGENT]),
     ("srm_agent_distance", c_int, [_AGENT, c_uint, POINTER(c_uint64)]),
+    ("srm_agent_known", c_int, [_AGENT, RawPage, c_uint, POINTER(c_uint32)]),
+    ("srm_agent_missing", c_int, [_AGENT, RawPage, c_uint, POINTER(c_uint32)]),
+    ("srm_agent_next_missing", c_int, [_AGENT, RawPage, c_uint, c_uint32, POINTER(c_uint32)]),
+    ("srm_agent_outstanding", c_int, [_AGENT, POINTER(RawOutstanding)]),
     ("srm_agent_give", c_int, [_AGENT, c_uint, POINTER(RawMessage)]),
 ]
 for _name, _result, _takes in _SIGNATURES:

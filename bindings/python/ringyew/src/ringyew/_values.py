@@ -86,3 +86,17 @@ class Ticked(NamedTuple):
     repairs: int
     datagrams: int
     state: State
+
+
+class Outstanding(NamedTuple):
+    """What a member misses, over all sources and pages; when its first request timer and its first repair timer expire, or None where none runs (and without a request
+    timer nothing is missing); how many datagrams wait until the rate lets them go: requests and repairs for the page shown, strokes of its own, requests and repairs for
+    other pages; and whether the member takes part."""
+
+    missing: int
+    next_request_at: int | None
+    next_repair_at: int | None
+    waiting_shown: int
+    waiting_new: int
+    waiting_other: int
+    state: State
