@@ -1,0 +1,5 @@
+pub mod Rooms
+pub mod Documents
+pub mod Readings
+pub mod Putting
+pub mod Examples
