@@ -456,7 +456,7 @@ typedef struct srm_outstanding {
     uint64_t next_request_at; /**< When the first request timer expires, in microseconds; ::SRM_NEVER where none runs, and so nothing is missing. */
     uint64_t next_repair_at;  /**< When the first repair timer expires, in microseconds; ::SRM_NEVER where none runs. */
     size_t waiting_shown;     /**< Requests and repairs for the page shown that wait until the rate lets them go. */
-    size_t waiting_new;       /**< Strokes of its own that wait. */
+    size_t waiting_new;       /**< The member's strokes that wait. */
     size_t waiting_other;     /**< Requests and repairs for other pages that wait. */
     uint32_t missing;         /**< Strokes that are missing, of all sources and on all pages. */
     uint8_t state;            /**< One of ::srm_state. */

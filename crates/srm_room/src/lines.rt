@@ -26,7 +26,8 @@ pub(crate) fn line_at(text: &str, span: Option<Range<usize>>) -> Option<usize> {
     Some(line)
 }
 
-/// Returns the line of a fault, from 1: that of the key, or else of the header of its table, where each stands in a line by itself.
+/// Returns the line of a fault, counted from 1: the line of its key. If the key has none, it is the line of the table's header. It finds only a key or a header that has a
+/// line to itself.
 pub(crate) fn line_of(text: &str, fault: Fault) -> Option<usize> {
     let (place, sought) = spot_of(fault)?;
     let mut open = Place::Top;

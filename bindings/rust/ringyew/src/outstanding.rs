@@ -16,7 +16,7 @@ pub struct Outstanding {
     pub next_repair_at: Option<u64>,
     /// How many requests and repairs for the page shown wait until the rate lets them go.
     pub waiting_shown: usize,
-    /// How many strokes of its own wait.
+    /// How many of the member's strokes wait until the rate lets them go.
     pub waiting_new: usize,
     /// How many requests and repairs for other pages wait.
     pub waiting_other: usize,

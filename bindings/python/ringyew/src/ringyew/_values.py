@@ -89,9 +89,12 @@ class Ticked(NamedTuple):
 
 
 class Outstanding(NamedTuple):
-    """What a member misses, over all sources and pages; when its first request timer and its first repair timer expire, or None where none runs (and without a request
-    timer nothing is missing); how many datagrams wait until the rate lets them go: requests and repairs for the page shown, strokes of its own, requests and repairs for
-    other pages; and whether the member takes part."""
+    """What a member waits for, and what it has to send.
+
+    `missing` counts the strokes that it misses, over all sources and pages. `next_request_at` and `next_repair_at` say when its first request timer and its first repair
+    timer expire, in microseconds; None where none runs. Without a request timer nothing is missing. `waiting_shown`, `waiting_new` and `waiting_other` count the datagrams
+    that the rate holds back: requests and repairs for the page shown, the member's strokes, and requests and repairs for other pages. `state` says whether the member
+    takes part."""
 
     missing: int
     next_request_at: int | None
