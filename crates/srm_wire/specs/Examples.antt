@@ -4,6 +4,9 @@ use Rattle.std.proofs.Common.{inl, inr, arith}
 use Rattle.srm_wire.specs.declared.fates.Fate.{Fate}
 use Rattle.srm_wire.specs.declared.fates.Fate.TheVariants.{Pass, Drop, Twice, Late}
 use Rattle.srm_wire.specs.Fates.{fate_of, arrivals_at, coming}
+use Rattle.srm_wire.specs.declared.loss.Loss.TheVariants.{Denied, PortClosed}
+use Rattle.srm_wire.specs.declared.counts.WireCounts.{WireCounts}
+use Rattle.srm_wire.specs.Counts.{no_drops, no_losses, only_failed, with_failures, with_loss}
 use Rattle.srm_wire.specs.Flakiness.{fails_next}
 use Rattle.srm_wire.specs.Wires.{Told, one_more, others, bytes_to, AreSomeOf, Sends}
 
@@ -38,6 +41,20 @@ no_call_fails_after_it = refl
 
 pub counts_to_the_greatest : one_more 18446744073709551615 ≡ 18446744073709551615
 counts_to_the_greatest = refl
+
+-- each loss counts as its kind, and as no other
+pub two_were_denied : with_loss Denied (with_loss PortClosed (with_loss Denied no_losses)) ≡ record { no_way = 0; denied = 2; too_long = 0; no_room = 0; port_closed = 1 }
+two_were_denied = refl
+
+-- a wire around one whose calls failed twice, and which lost one, adds its own failures alone, up to the greatest count
+abbrev counted_before : WireCounts
+counted_before = record { failures = 2; lost = with_loss Denied no_losses; dropped = no_drops }
+
+pub adds_its_failures : with_failures 3 counted_before ≡ record { failures = 5; lost = with_loss Denied no_losses; dropped = no_drops }
+adds_its_failures = refl
+
+pub failures_stop : with_failures 18446744073709551615 (only_failed 2) ≡ only_failed 18446744073709551615
+failures_stop = refl
 
 pub rising_but_one : others 1 4 ≡ 0 ∷ 2 ∷ 3 ∷ []
 rising_but_one = refl

@@ -1,3 +1,4 @@
+pub mod Counts
 pub mod Examples
 pub mod Fates
 pub mod Flakiness

@@ -3,6 +3,7 @@
 ghost use Rattle.std.specs.Prelude.{◌≡◌, ◌-◌, ◌==◌};
 ghost use Rattle.srm_wire.specs.Wires.{counted_with};
 
+use crate::counts::WireCounts;
 use crate::wire::{Wire, WireFault, count_failure};
 use srm_names::Member;
 use std::marker::Model;
@@ -52,11 +53,14 @@ fn fails(remaining: &mut u64) -> bool
 impl<X: Wire + Drop> Wire for Flaky<X> {
     ghost use Rattle.std.specs.Prelude.{◌≡◌};
     ghost use Rattle.srm_wire.specs.Wires.{is_failed};
+    ghost use Rattle.srm_wire.specs.Counts.{with_failures};
     ghost use Rattle.srm_wire.specs.Flakiness.{FailsOnce};
 
     ghost failure_count = { λ f. counted_with (X.failure_count f.wire) f.own };
 
     ghost told = { λ f. X.told f.wire };
+
+    ghost counted = { λ f. with_failures f.own (X.counted f.wire) };
 
     ghost sends = { λ f sent failed g. FailsOnce (λ v w. X.sends v sent failed w) failed f g };
 
@@ -86,5 +90,9 @@ impl<X: Wire + Drop> Wire for Flaky<X> {
 
     fn failures(&self) -> u64 {
         self.wire.failures().saturating_add(self.own)
+    }
+
+    fn counts(&self) -> WireCounts {
+        self.wire.counts().with_failures(self.own)
     }
 }

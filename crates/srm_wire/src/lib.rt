@@ -9,14 +9,18 @@
 //! wire.pause(1_000); // until a datagram may be there, or 1 ms has passed
 //! ```
 //!
+//! Each wire says what it has counted ([`Wire::counts`]): the calls that failed, what was lost by kind, and what was dropped by cause. A wire around another one adds its own.
+//!
 //! **Errors.** A failed `send` or `receive` returns [`WireFault`], and the wire counts it. A datagram that is lost isn't an error. [`hub`]
 //! fails only if out of memory.
 #![tactic(auto)]
 
 mod clock;
+mod counts;
 mod fates;
 mod flaky;
 mod inboxes;
+mod loss;
 mod mem_wire;
 mod network;
 mod sending;
@@ -24,8 +28,10 @@ mod sent;
 mod wire;
 
 pub use clock::Clock;
+pub use counts::{Dropped, WireCounts};
 pub use fates::Fate;
 pub use flaky::Flaky;
+pub use loss::{Loss, Losses};
 pub use mem_wire::MemWire;
 pub use network::hub;
 pub use sending::send_to_others;

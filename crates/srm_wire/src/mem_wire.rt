@@ -3,6 +3,7 @@
 ghost use Rattle.std.specs.Prelude.{◌≡◌, ◌≤◌, length, take, Some, IfOk};
 ghost use Rattle.srm_wire.specs.Networks.{copies_at, new_wire_of};
 
+use crate::counts::WireCounts;
 use crate::fates::{Fate, arrivals_at};
 use crate::inboxes::Network;
 use crate::sent::{Sent, copy_of};
@@ -58,11 +59,14 @@ impl<R: Wait + Drop> Model for MemWire<R> {
 
 impl<R: Wait + Drop> Wire for MemWire<R> {
     ghost use Rattle.std.specs.Prelude.{◌≡◌};
+    ghost use Rattle.srm_wire.specs.Counts.{only_failed};
     ghost use Rattle.srm_wire.specs.Networks.{SendsByFate, KeepsAnswer};
 
     ghost failure_count = { λ w. w.failures };
 
     ghost told = { λ w. Some (record { came = w.came; went = w.went }) };
+
+    ghost counted = { λ w. only_failed w.failures };
 
     ghost sends = { SendsByFate };
 
@@ -110,6 +114,10 @@ impl<R: Wait + Drop> Wire for MemWire<R> {
 
     fn failures(&self) -> u64 {
         self.failures
+    }
+
+    fn counts(&self) -> WireCounts {
+        WireCounts::of_failures(self.failures)
     }
 }
 

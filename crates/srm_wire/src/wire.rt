@@ -2,8 +2,10 @@
 
 ghost use Rattle.std.specs.Prelude.{◌≡◌, ◌≤◌, ℕ, Bool, true, List, [], length, Option, IfOk, IfSome, is_err};
 ghost use Rattle.srm_wire.specs.declared.sent.Sent.{Sent};
+ghost use Rattle.srm_wire.specs.declared.counts.WireCounts.{WireCounts as AllCounts};
 ghost use Rattle.srm_wire.specs.Wires.{Told, TellsMore, CountsIf, answered, bytes_to, one_more, sent_by};
 
+use crate::counts::WireCounts;
 use srm_names::Member;
 use thiserror::Error;
 
@@ -40,6 +42,9 @@ pub trait Wire {
 
     ghost told: { Self → Option Told };
 
+    // What it has counted.
+    ghost counted: { Self → AllCounts };
+
     ghost sends: { Self → Sent → Bool → Self → Type 0 } = { λ old sent failed new. Unit {0} };
 
     ghost receives: { Self → ℕ → List (Option (List ℕ)) → Self → Type 0 } = { λ old room answer new. Unit {0} };
@@ -73,4 +78,10 @@ pub trait Wire {
     /// Returns the count of failures.
     fn failures(&self) -> u64
         ensures { result ≡ failure_count self.now };
+
+    /// Returns what the wire has counted so far: its failures, what was lost by kind, and what was dropped by cause. Takes no memory. A wire that counts nothing but its failures returns
+    /// [`WireCounts::of_failures`].
+    fn counts(&self) -> WireCounts
+        ensures value { result ≡ counted self.now }
+        ensures failures { result.failures ≡ failure_count self.now };
 }
