@@ -49,6 +49,7 @@ words_go_on next_word a b c same h k = record {
   added = h.added ++ k.added;
   grown = k.grown ∙ ap (λ es. es ++ k.added) h.grown ∙ append_assoc a.journal.entries h.added k.added;
   words = by_more next_word a.journal.start.config a.words b.words c.words h.added k.added h.words (subst (λ (t : Start). AreByWords next_word t.config b.words k.added c.words) same k.words);
+  begins = k.begins ∙ h.begins;
 }
 
 -- one more of those that are gone through

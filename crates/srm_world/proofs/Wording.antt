@@ -19,6 +19,7 @@ use Rattle.srm_agent.specs.Noting.{Enters}
 use Rattle.srm_world.specs.declared.start.Start.{Start}
 use Rattle.srm_world.specs.Traces.{Trace, Journal, of_member}
 use Rattle.srm_world.specs.Participants.{ParticipantContent}
+use Rattle.srm_world.specs.RecordStarts.{RecordStart}
 use Rattle.srm_world.specs.WaitWords.{RecorderView, WorldView, AreByWords, AreByOwnWords, RecordsByWords, PlaysByWords, arms_in}
 use Rattle.srm_world.specs.Worlds.{AreWorld, words_of}
 use Rattle.srm_world.proofs.Members.{of_member-append}
@@ -34,20 +35,22 @@ by_more next_word c from mid to xs ys h k =
 
 -- a recorder
 
-pub recorded_by : {W : Type 0} (next_word : W → ℕ × W) (now : Option ℕ) (input : Input) (j : Journal) (a b : agents.AgentContent W) (e : Entry) (es : List Entry) → AgentFits j.start.config j.start.made j.entries a → Enters next_word now input a b e → es ≡ j.entries ++ e ∷ []
-    → RecordsByWords next_word (record { journal = j; words = a.words }) (record { journal = record { start = j.start; entries = es }; words = b.words })
-recorded_by next_word now input j a b e es fits enters is = record {
+pub recorded_by : {W : Type 0} (next_word : W → ℕ × W) (now : Option ℕ) (input : Input) (j : Journal) (a b : agents.AgentContent W) (e : Entry) (es : List Entry) {was begins : Option RecordStart} → AgentFits j.start.config j.start.made j.entries a → Enters next_word now input a b e → es ≡ j.entries ++ e ∷ [] → begins ≡ was
+    → RecordsByWords next_word (record { journal = j; words = a.words; begins = was }) (record { journal = record { start = j.start; entries = es }; words = b.words; begins = begins })
+recorded_by next_word now input j a b e es fits enters is still = record {
   added = e ∷ [];
   grown = is;
   words = by_one next_word j.start.config a.words b.words e (subst (λ (c : Config). AreChosen next_word (low_of c) (high_of c) a.words e.effects.arms b.words) fits.config enters.words);
+  begins = still;
 }
 
-pub unrecorded : {W : Type 0} (next_word : W → ℕ × W) (j : Journal) (from to : W) (es : List Entry) → es ≡ j.entries → to ≡ from → RecordsByWords next_word (record { journal = j; words = from }) (record { journal = record { start = j.start; entries = es }; words = to })
-unrecorded next_word j from to es is same = record { added = []; grown = is ∙ sym (append-nil j.entries); words = same }
+pub unrecorded : {W : Type 0} (next_word : W → ℕ × W) (j : Journal) (from to : W) (es : List Entry) {was begins : Option RecordStart} → es ≡ j.entries → to ≡ from → begins ≡ was
+    → RecordsByWords next_word (record { journal = j; words = from; begins = was }) (record { journal = record { start = j.start; entries = es }; words = to; begins = begins })
+unrecorded next_word j from to es is same still = record { added = []; grown = is ∙ sym (append-nil j.entries); words = same; begins = still }
 
 -- the same in terms of what contracts see
 pub no_words_recorded : {W : Type 0} (next_word : W → ℕ × W) (old new : RecorderView W) → new ≡ old → RecordsByWords next_word old new
-no_words_recorded next_word old new same = subst (RecordsByWords next_word old) (sym same) (record { added = []; grown = sym (append-nil old.journal.entries); words = refl })
+no_words_recorded next_word old new same = subst (RecordsByWords next_word old) (sym same) (record { added = []; grown = sym (append-nil old.journal.entries); words = refl; begins = refl })
 
 -- a world
 

@@ -22,6 +22,7 @@ use Rattle.srm_world.specs.declared.event.Event.{Event}
 use Rattle.srm_world.specs.declared.event.Event.TheVariants as events
 use Rattle.srm_world.specs.declared.start.Start.{Start}
 use Rattle.srm_world.specs.Traces.{of_member, drawn_by, taken_by, is_take, IsHonest, IsUntaken, CanBeHanded, IsHandable}
+use Rattle.srm_world.specs.RecordStarts.{RecordStart}
 use Rattle.srm_world.specs.WaitWords.{RecorderView, WorldView, AreByWords, AreByOwnWords, RecordsByWords, PlaysByWords}
 use Rattle.srm_world.specs.Events.{member_of, moment_in, required_input, last_of_member, IsEntryOf, Follows}
 
@@ -341,13 +342,20 @@ the_other_source_stays h = absurd (let k : no_words ≡ 5 ∷ [] = h.each 0 (sta
 -- the numbers that were consumed chose the waits in what a recorder and a world gained
 
 abbrev recorded : List Entry → List ℕ → RecorderView (List ℕ)
-recorded entries words = record { journal = record { start = start 2 1; entries = entries }; words = words }
+recorded entries words = record { journal = record { start = start 2 1; entries = entries }; words = words; begins = None }
 
 one_entry_recorded : RecordsByWords next_listed (recorded [] (5 ∷ 7 ∷ [])) (recorded (hears_c 200005 ∷ []) (7 ∷ []))
-one_entry_recorded = record { added = hears_c 200005 ∷ []; grown = refl; words = one_word }
+one_entry_recorded = record { added = hears_c 200005 ∷ []; grown = refl; words = one_word; begins = refl }
 
 no_word_goes_unrecorded : RecordsByWords next_listed (recorded [] (5 ∷ 7 ∷ [])) (recorded [] (7 ∷ [])) → ⊥
 no_word_goes_unrecorded h = absurd (let k : 7 ∷ [] ≡ 5 ∷ 7 ∷ [] = subst (λ es. AreByWords next_listed (in_roster 1 2 4204) (5 ∷ 7 ∷ []) es (7 ∷ [])) (sym h.grown) h.words in cc)
+
+-- a history isn't written to a record that it wasn't written to before
+abbrev a_record : RecordStart
+a_record = record { start = start 2 1; seed = 9; wall = 0; first = Some [] }
+
+no_record_begins_later : RecordsByWords next_listed (recorded [] []) (record (recorded [] []) { begins = Some a_record }) → ⊥
+no_record_begins_later h = absurd (let k : Some a_record ≡ None = h.begins in cc)
 
 abbrev played : List Entry → List (List ℕ) → WorldView (List ℕ)
 played entries words = record { trace = record { starts = two; entries = entries }; words = words }

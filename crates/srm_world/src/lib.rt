@@ -20,6 +20,9 @@
 //! A program that keeps the journal of its member uses a [`Recorder`] in place of an agent: the calls are the same. One that runs for
 //! days makes it with [`Recorder::forgetful`], which stores no entries; contracts see its journal all the same.
 //!
+//! [`Recorder::turned`] lets the history see the member, as a node does at the end of each turn: a program that shows how a member stands implements [`Past::turned`] and asks
+//! the agent. A recorder that ends leaves its [`Journal`], or its [`History`], which says in contracts how its record begins too.
+//!
 //! **Errors.** A world fails only if out of memory, and is then as after the events before. If a member refuses or ignores an event, the
 //! entry says so. An event is skipped if its member, datagram or slot doesn't exist.
 #![tactic(auto)]
@@ -28,6 +31,7 @@ mod appending;
 mod event;
 mod fault;
 mod forgotten;
+mod history;
 mod journal;
 mod lane;
 mod lanes;
@@ -43,6 +47,7 @@ mod world;
 pub use event::Event;
 pub use fault::WorldFault;
 pub use forgotten::Forgotten;
+pub use history::History;
 pub use journal::Journal;
 pub use laws::{honest_runs_are_lawful, rests, takes};
 pub use past::Past;

@@ -49,13 +49,15 @@ impl<W: Words + Drop> Participant<W> {
         ensures fits { IfOk result (ParticipantFits config now []) }
         ensures words { IfOk result (λ participant. participant.agent.words ≡ words) }
     {
+        // The lanes first, so that the proof follows no agent that is dropped.
+        let lanes = Lanes::new(alloc)?;
         Ok(Participant {
             alloc,
             agent: Agent::new(alloc, config, words, now)?,
             config,
             last: now,
             state: AgentState::Active,
-            lanes: Lanes::new(alloc)?,
+            lanes,
         })
     }
 

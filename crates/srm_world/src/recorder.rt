@@ -14,6 +14,7 @@ ghost use Rattle.srm_world.specs.WaitWords.{RecordsByWords};
 mod asking;
 
 use crate::forgotten::Forgotten;
+use crate::history::History;
 use crate::journal::Journal;
 use crate::past::Past;
 use crate::start::Start;
@@ -22,6 +23,7 @@ use srm_agent::{Agent, AgentFault, AgentState, Config, Entry, Heard, Input, Note
 use srm_agent_state::page_in_range;
 use srm_names::{Member, Name, Page, PageMsg};
 use srm_timers::Words;
+use srm_wire::WireCounts;
 use std::alloc::{AllocError, Global};
 use std::marker::Model;
 
@@ -30,7 +32,7 @@ use std::marker::Model;
 /// A call makes room for its entry first, so [`AgentFault::Memory`] may come before another fault. On `Memory` the call has no entry, and
 /// the journal is unchanged. A call with another fault has an entry that says so.
 ///
-/// Contracts see the journal, whatever the [`Past`] stores, and the state of the generator of random numbers.
+/// Contracts see the journal, whatever the [`Past`] stores, the state of the generator of random numbers, and how the record begins that the [`Past`] is written to, if it is written to one.
 #[derive(Drop)]
 pub struct Recorder<W: Words + Drop, P: Past<Entry> + Drop = Vec<Entry>> {
     agent: Agent<W>,
@@ -44,7 +46,7 @@ impl<W: Words + Drop, P: Past<Entry> + Drop> Model for Recorder<W, P> {
 
     ghost Value = { RecorderView W };
 
-    ghost view = { λ r. recorder_view r.start (P.appended r.past) r.agent };
+    ghost view = { λ r. recorder_view r.start (P.appended r.past) (P.begins r.past) r.agent };
 
     ghost invariant = { λ r. IsKept (journal_of r.start (P.appended r.past)) r.agent };
 }
@@ -56,7 +58,7 @@ impl<W: Words + Drop> Recorder<W> {
     /// Fails only if out of memory.
     pub fn new(alloc: Global, config: Config, words: W, now: u64) -> Result<Recorder<W>, AllocError>
         requires { now ≤ LATEST_MOMENT }
-        ensures value { IfOk result (λ recorder. recorder ≡ record { journal = record { start = record { config = config; made = now }; entries = [] }; words = words }) }
+        ensures value { IfOk result (λ recorder. recorder ≡ record { journal = record { start = record { config = config; made = now }; entries = [] }; words = words; begins = None }) }
     {
         Recorder::with_past(alloc, config, words, now, Vec::new(alloc))
     }
@@ -81,7 +83,7 @@ impl<W: Words + Drop> Recorder<W, Forgotten<Entry>> {
         now: u64,
     ) -> Result<Recorder<W, Forgotten<Entry>>, AllocError>
         requires { now ≤ LATEST_MOMENT }
-        ensures value { IfOk result (λ recorder. recorder ≡ record { journal = record { start = record { config = config; made = now }; entries = [] }; words = words }) }
+        ensures value { IfOk result (λ recorder. recorder ≡ record { journal = record { start = record { config = config; made = now }; entries = [] }; words = words; begins = None }) }
     {
         Recorder::with_past(alloc, config, words, now, Forgotten::new())
     }
@@ -100,7 +102,7 @@ impl<W: Words + Drop, P: Past<Entry> + Drop> Recorder<W, P> {
     ) -> Result<Recorder<W, P>, AllocError>
         requires moment { now ≤ LATEST_MOMENT }
         requires past { P.appended past ≡ [] }
-        ensures value { IfOk result (λ recorder. recorder ≡ record { journal = record { start = record { config = config; made = now }; entries = [] }; words = words }) }
+        ensures value { IfOk result (λ recorder. recorder ≡ record { journal = record { start = record { config = config; made = now }; entries = [] }; words = words; begins = P.begins past }) }
     {
         Ok(Recorder {
             agent: Agent::new(alloc, config, words, now)?,
@@ -258,11 +260,32 @@ impl<W: Words + Drop, P: Past<Entry> + Drop> Recorder<W, P> {
         self.agent.admits_draw_from(body_length)
     }
 
+    /// Lets the history see the member at the end of a turn, and what its wire has counted so far, as [`Past::turned`] says. Has no entry, and draws no random number.
+    #[tactic(auto, using(crate::proofs::Journaling::entries_same))]
+    pub fn turned(&mut self, counts: &WireCounts)
+        ensures { self.new ≡ self.old }
+    {
+        self.past.turned(&self.agent, counts);
+    }
+
     /// Returns the entries so far, as they are stored. Takes no memory.
     pub fn past(&self) -> &P
-        ensures { P.appended result.now ≡ self.now.journal.entries }
+        ensures entries { P.appended result.now ≡ self.now.journal.entries }
+        ensures begins { P.begins result.now ≡ self.now.begins }
     {
         &self.past
+    }
+
+    /// Ends the recorder, and returns how its member began and its history, as it is stored. Takes no memory.
+    pub fn into_history(self) -> History<P>
+        ensures journal { result.journal ≡ self.journal }
+        ensures begins { result.begins ≡ self.begins }
+        ensures lawful { IsLawfulJournal result.journal }
+    {
+        History {
+            start: self.start,
+            past: self.past,
+        }
     }
 
     /// Ends the recorder, and returns its journal. Takes no memory.
