@@ -2,11 +2,16 @@
 use Rattle.std.proofs.Common.{◌≡◌, ℕ, ◌+◌, ◌<◌, ◌≤◌, List, [], ◌∷◌, ◌++◌, length, take, map, refl, ap, sym, ◌∙◌, subst, inl, inr, arith}
 use Rattle.std.specs.Prelude.{Option, Some, None, option_map, Result, Ok, Err, Bool, true, false}
 use Rattle.std.proofs.lemmas.List.{length-append}
-use Rattle.srm_wire.specs.Wires.{answered_with, none_there, CountsIf, RoseOrFull}
+use Rattle.std.specs.Prelude.{MatchBool, nat_lt, ◌==◌, ◌||◌}
+use Rattle.std.proofs.lemmas.Bool.{or_from, le-ltb, ne_eqb}
+use Rattle.srm_window.specs.Senders.{numbered}
+use Rattle.srm_wire.specs.declared.sent.Sent.{Sent}
+use Rattle.srm_guard.specs.Seals.{SealView, sealed, next_to, one_sent}
+use Rattle.srm_wire.specs.Wires.{one_more, bytes_to, answered_with, none_there, CountsIf, RoseOrFull}
+use Rattle.srm_guard.specs.declared.dropped.Cause.{Cause}
 use Rattle.srm_guard.specs.declared.guard.Came.{Came}
 use Rattle.srm_guard.specs.declared.guard.Came.TheVariants.{Nothing, Datagram, Dropped}
-use Rattle.srm_guard.specs.Guards.{GuardView, DropsOne, DropsEach, Brings, ReceivesOne, ReceivesTagged}
-use Rattle.srm_guard.specs.Tags.{tagged}
+use Rattle.srm_guard.specs.Guards.{GuardView, DropsOne, DropsEach, Brings, Judges, Passes, ReceivesOne, ReceivesTagged, SendsBehind, SendsTagged, one_dropped}
 
 -- so many came and were dropped
 pub record HasDropped {W : Type 0} (Below : W → ℕ → List (Option (List ℕ)) → W → Type 0) (room count : ℕ) (g h : GuardView W) : Type 0 where
@@ -31,30 +36,30 @@ dropped_more E Below room count buffer f g h is had (bytes, came, drops) = recor
 
 -- what the wire below returns then ends the receive: a failure, None, or a datagram
 pub ends_failed : {W : Type 0} (E : Type 0) (e : E) (Below : W → ℕ → List (Option (List ℕ)) → W → Type 0) (room count : ℕ) (buffer : List ℕ) (f g h : GuardView W) → length buffer ≡ room → count ≤ 64 → HasDropped Below room count f g → ReceivesOne {E = E} Below buffer (Err e) g h → ReceivesTagged Below (length buffer) [] f h
-ends_failed E e Below room count buffer f g h same few had (came, is) = record {
+ends_failed E e Below room count buffer f g h same few had came = record {
   dropped = had.dropped;
   few = omega (arith, had.all);
   between = g;
   drops = subst (λ n. DropsEach Below n had.dropped f g) (sym same) had.each;
-  brings = inr (came, is);
+  brings = inr came;
 }
 
 pub ends_empty : {W : Type 0} (E : Type 0) (Below : W → ℕ → List (Option (List ℕ)) → W → Type 0) (room count : ℕ) (buffer : List ℕ) (f g h : GuardView W) → length buffer ≡ room → count ≤ 64 → HasDropped Below room count f g → ReceivesOne {E = E} Below buffer (Ok Nothing) g h → ReceivesTagged Below (length buffer) none_there f h
-ends_empty E Below room count buffer f g h same few had (came, is) = record {
+ends_empty E Below room count buffer f g h same few had came = record {
   dropped = had.dropped;
   few = omega (arith, had.all);
   between = g;
   drops = subst (λ n. DropsEach Below n had.dropped f g) (sym same) had.each;
-  brings = inr (came, is);
+  brings = inr came;
 }
 
 pub ends_brought : {W : Type 0} (E : Type 0) (Below : W → ℕ → List (Option (List ℕ)) → W → Type 0) (room count bytes : ℕ) (buffer : List ℕ) (f g h : GuardView W) → length buffer ≡ room → count ≤ 64 → HasDropped Below room count f g → ReceivesOne {E = E} Below buffer (Ok (Datagram bytes)) g h → ReceivesTagged Below (length buffer) (answered_with (take bytes buffer)) f h
-ends_brought E Below room count bytes buffer f g h same few had (within, came, is) = record {
+ends_brought E Below room count bytes buffer f g h same few had (within, came) = record {
   dropped = had.dropped;
   few = omega (arith, had.all);
   between = g;
   drops = subst (λ n. DropsEach Below n had.dropped f g) (sym same) had.each;
-  brings = inr (came, is);
+  brings = inr came;
 }
 
 -- and behind 64 that were dropped nothing is asked
@@ -75,3 +80,22 @@ counts_after true x y z le h = (omega (arith, h.0), rose_before x y z le h.1)
     rose_before x y z le (inl rose) = inl (omega arith)
     rose_before x y z le (inr full) = inr full
 counts_after false x y z le h = (omega (arith, h.0), tt)
+
+-- bytes that were judged to be dropped, behind a receive, and counted
+pub drops_counted : {W : Type 0} (v now h k : GuardView W) (w : W) (bytes : List ℕ) (cause : Cause) → v ≡ now → Judges bytes (Err cause) (record v { wire = w }) h → k ≡ record h { dropped = one_dropped cause h.dropped } → DropsOne now bytes k
+drops_counted {W} v now h k w bytes cause is (opened, behind, causes, same) counted =
+    subst (λ (g : GuardView W). DropsOne g bytes k) is
+    (subst (λ (x : GuardView W). DropsOne v bytes x) (sym (counted ∙ ap (λ (x : GuardView W). record x { dropped = one_dropped cause x.dropped }) same))
+    (cause, opened, behind, causes, refl))
+
+-- a datagram that was sealed, and sent
+pub sends_sealed : {W : Type 0} (Below : W → Sent → Bool → W → Type 0) (v now h : GuardView W) (w : W) (s t : SealView) (to : ℕ) (datagram raw : List ℕ) (failed : Bool)
+    → v ≡ now → v.seal ≡ Some s → length datagram ≤ 65535 → raw ≡ sealed s.key to (numbered s.me (next_to to s)) datagram → (next_to to s ≡ 18446744073709551615 → ⊥) → t ≡ one_sent to s
+    → Below v.wire (bytes_to to raw) failed w → h ≡ record v { wire = w; seal = Some t } → SendsTagged Below now (bytes_to to datagram) failed h
+sends_sealed {W} Below v now h w s t to datagram raw failed is has short whole left counted sends same =
+    subst (λ (g : GuardView W). SendsTagged Below g (bytes_to to datagram) failed h) is
+    (subst (λ o. SendsBehind Below o v (bytes_to to datagram) failed h) (sym has)
+    (subst (λ b. MatchBool b ((failed ≡ true) × (h ≡ record v { own = one_more v.own })) ((h ≡ record v { wire = h.wire; seal = Some (one_sent to s) }) × Below v.wire (bytes_to to (sealed s.key to (numbered s.me (next_to to s)) datagram)) failed h.wire))
+    (sym (or_from (nat_lt 65535 (length datagram)) (next_to to s == 18446744073709551615) (le-ltb 65535 (length datagram) short) (ne_eqb (next_to to s) 18446744073709551615 left)))
+    (subst (λ (x : GuardView W). (x ≡ record v { wire = x.wire; seal = Some (one_sent to s) }) × Below v.wire (bytes_to to (sealed s.key to (numbered s.me (next_to to s)) datagram)) failed x.wire) (sym same)
+    (ap (λ (u : SealView). record v { wire = w; seal = Some u }) counted, subst (λ b. Below v.wire (bytes_to to b) failed w) whole sends))))

@@ -1,3 +1,6 @@
 pub mod Tags
+pub mod Seals
 pub mod Guards
+pub mod Runs
+pub mod Receives
 pub mod Examples

@@ -1,15 +1,13 @@
 //! A wire that drops what the node above it is not to hear.
 
-ghost use Rattle.std.specs.Prelude.{◌≡◌, ◌+◌, ◌++◌, ◌≤◌, length, take, is_some, is_err, IfOk, MatchOption, MatchResult};
+ghost use Rattle.std.specs.Prelude.{◌≡◌, is_err, IfOk};
 ghost use Rattle.srm_wire.specs.Wires.{CountsIf, counted_with};
-ghost use Rattle.srm_guard.specs.Guards.{CausesDrop, OpensTo, ReceivesOne, new_guard, one_dropped};
-ghost use Rattle.srm_guard.specs.Tags.{HasNoTag};
+ghost use Rattle.srm_guard.specs.Guards.{BehindSeal, Judges, ReceivesOne, new_guard, one_dropped};
 
 use crate::dropped::{Cause, Dropped};
-use crate::key::{Key, TAG_BYTES};
-use crate::limit::Limit;
+use crate::seal::{Opened, Seal, TRAILER_BYTES};
 use srm_names::Member;
-use srm_wire::{Wire, WireFault, count_failure};
+use srm_wire::{Wire, WireCounts, WireFault, count_failure};
 use std::alloc::{AllocError, Global};
 use std::marker::Model;
 
@@ -26,18 +24,16 @@ enum Came {
     Dropped,
 }
 
-/// A wire around a wire. With a key it sends each datagram with its tag behind it, and drops what comes without its right tag. With a limit it drops a datagram that
-/// would make too many names missing.
+/// A wire around a wire. With a seal it sends each datagram with its number and tag behind it, drops what comes without its right tag, and drops what came before.
+/// Without one it drops nothing.
 ///
-/// A `receive` returns `None` after 64 dropped datagrams, though more may wait. With a key a datagram is 16 bytes longer on the wire below: a `receive` needs so
+/// A `receive` returns `None` after 64 dropped datagrams, though more may wait. With a seal a datagram is 25 bytes longer on the wire below: a `receive` needs so
 /// many bytes more in its buffer, or the tag is cut off and the datagram dropped; and a `send` of more than 65,535 bytes fails, and is counted. Everything else is
 /// as with the wire below.
 #[derive(Drop)]
 pub struct Guard<X: Wire + Drop> {
     wire: X,
-    alloc: Global,
-    key: Option<Key>,
-    limit: Option<Limit>,
+    seal: Option<Seal>,
     dropped: Dropped,
     own: u64,
     // Where a datagram and its tag are put together.
@@ -45,32 +41,25 @@ pub struct Guard<X: Wire + Drop> {
 }
 
 impl<X: Wire + Drop> Model for Guard<X> {
-    ghost use Rattle.std.specs.Prelude.{◌≡◌, length, is_some};
+    ghost use Rattle.std.specs.Prelude.{◌≡◌, length};
     ghost use Rattle.srm_guard.specs.Guards.{GuardView};
 
     ghost Value = { GuardView X };
 
-    ghost view = { λ g. record { wire = g.wire; key = g.key; limited = is_some g.limit; dropped = g.dropped; own = g.own } };
+    ghost view = { λ g. record { wire = g.wire; seal = g.seal; dropped = g.dropped; own = g.own } };
 
-    ghost invariant = { λ g. length g.room.items ≡ 65551 };
+    ghost invariant = { λ g. length g.room.items ≡ 65560 };
 }
 
 impl<X: Wire + Drop> Guard<X> {
     /// Makes a guard over a wire. It allocates 64 KiB, and fails only if out of memory.
-    pub fn new(
-        wire: X,
-        alloc: Global,
-        key: Option<Key>,
-        limit: Option<Limit>,
-    ) -> Result<Guard<X>, AllocError>
-        ensures { IfOk result (λ g. g ≡ new_guard wire key (is_some limit)) }
+    pub fn new(wire: X, alloc: Global, seal: Option<Seal>) -> Result<Guard<X>, AllocError>
+        ensures { IfOk result (λ g. g ≡ new_guard wire seal) }
     {
-        let room = vec![in alloc; 0; LONGEST + TAG_BYTES]?;
+        let room = vec![in alloc; 0; LONGEST + TRAILER_BYTES]?;
         Ok(Guard {
             wire,
-            alloc,
-            key,
-            limit,
+            seal,
             dropped: Dropped::none(),
             own: 0,
             room,
@@ -91,26 +80,26 @@ impl<X: Wire + Drop> Guard<X> {
         self.dropped
     }
 
-    // Returns how many of these bytes are the datagram before its tag, if the tag is right.
-    fn open(&self, bytes: &[u8]) -> Option<usize>
-        ensures { MatchOption result (HasNoTag self.now.key bytes.now) (λ count. OpensTo self.now.key bytes.now count) }
+    // Opens bytes that came. Without a seal they are a datagram as they are.
+    fn open(&mut self, bytes: &[u8]) -> Opened
+        ensures opens { BehindSeal self.old.seal bytes.now result self.new.seal }
+        ensures rest { self.new ≡ record self.old { seal = self.new.seal } }
     {
-        match &self.key {
-            Some(key) => key.open(bytes),
-            None => Some(bytes.len()),
+        match &mut self.seal {
+            Some(seal) => seal.open(bytes),
+            None => Opened::Datagram(bytes.len()),
         }
     }
 
     // Returns how many of these bytes the node is to hear, or why they are dropped.
-    fn judge(&self, bytes: &[u8]) -> Result<usize, Cause>
-        ensures { MatchResult result (λ count. OpensTo self.now.key bytes.now count) (CausesDrop self.now.key self.now.limited bytes.now) }
+    fn judge(&mut self, bytes: &[u8]) -> Result<usize, Cause>
+        ensures { Judges bytes.now result self.old self.new }
     {
-        let Some(count) = self.open(bytes) else {
-            return Err(Cause::Untagged);
-        };
-        match &self.limit {
-            Some(limit) if limit.is_excess(self.alloc, &bytes[..count]) => Err(Cause::Excess),
-            _ => Ok(count),
+        match self.open(bytes) {
+            Opened::Foreign => Err(Cause::Untagged),
+            Opened::Older => Err(Cause::Older),
+            Opened::Again => Err(Cause::Again),
+            Opened::Datagram(count) => Ok(count),
         }
     }
 
@@ -142,11 +131,13 @@ impl<X: Wire + Drop> Guard<X> {
 impl<X: Wire + Drop> Wire for Guard<X> {
     ghost use Rattle.std.specs.Prelude.{◌≡◌, None};
     ghost use Rattle.srm_wire.specs.Wires.{counted_with};
-    ghost use Rattle.srm_guard.specs.Guards.{ReceivesTagged, SendsTagged};
+    ghost use Rattle.srm_guard.specs.Guards.{ReceivesTagged, SendsTagged, counted_behind};
 
     ghost failure_count = { λ g. counted_with (X.failure_count g.wire) g.own };
 
     ghost told = { λ g. None };
+
+    ghost counted = { λ g. counted_behind g.own g.dropped (X.counted g.wire) };
 
     ghost sends = { SendsTagged X.sends };
 
@@ -155,15 +146,17 @@ impl<X: Wire + Drop> Wire for Guard<X> {
     ghost pauses = { λ g micros h. (h ≡ record g { wire = h.wire }) × X.pauses g.wire micros h.wire };
 
     fn send(&mut self, to: Member, datagram: &[u8]) -> Result<(), WireFault> {
-        let Some(key) = &self.key else {
+        let Some(seal) = &mut self.seal else {
             return self.wire.send(to, datagram);
         };
         if datagram.len() > LONGEST {
             return Err(count_failure(&mut self.own));
         }
-        let tag = key.tag(datagram);
-        join(self.room.as_mut_slice(), datagram, &tag);
-        self.wire.send(to, &self.room[..datagram.len() + TAG_BYTES])
+        if !seal.close(to, datagram, self.room.as_mut_slice()) {
+            return Err(count_failure(&mut self.own));
+        }
+        self.wire
+            .send(to, &self.room[..datagram.len() + TRAILER_BYTES])
     }
 
     fn receive(&mut self, buffer: &mut [u8]) -> Result<Option<usize>, WireFault> {
@@ -184,14 +177,14 @@ impl<X: Wire + Drop> Wire for Guard<X> {
     fn failures(&self) -> u64 {
         self.wire.failures().saturating_add(self.own)
     }
-}
 
-// Puts a datagram and its tag together, at the beginning of a room.
-fn join(room: &mut [u8], datagram: &[u8], tag: &[u8; 16])
-    requires { length datagram.now + 16 ≤ length room.old }
-    ensures { take (length datagram.now + 16) room.new ≡ datagram.now ++ tag.now }
-{
-    let end = datagram.len() + TAG_BYTES;
-    room[..datagram.len()].copy_from_slice(datagram);
-    room[datagram.len()..end].copy_from_slice(tag);
+    /// Returns what the wire below has counted, and with it what was dropped here and the sends that failed here.
+    fn counts(&self) -> WireCounts {
+        let below = self.wire.counts();
+        WireCounts {
+            failures: below.failures.saturating_add(self.own),
+            lost: below.lost,
+            dropped: self.dropped.behind(below.dropped),
+        }
+    }
 }

@@ -1,7 +1,7 @@
 //! The key that the members of a session share.
 
-ghost use Rattle.std.specs.Prelude.{◌≡◌, ◌↔◌, ◌≤◌, ℕ, ◌++◌, List, length, take, vec_len, IsTrue, IsSome, IfSome, IfOk, MatchOption, Some};
-ghost use Rattle.srm_guard.specs.Tags.{HasNoTag, tag_of, tagged};
+ghost use Rattle.std.specs.Prelude.{◌≡◌, ◌↔◌, ◌≤◌, ◌-◌, ℕ, [], ◌∷◌, ◌++◌, List, length, take, vec_len, IsTrue, IsSome, IfSome, IfOk, MatchOption};
+ghost use Rattle.srm_guard.specs.Tags.{HasNoTag, HasOldTag, label, old_tag_of, tag_of, tagged};
 
 use crate::hmac::Pads;
 use std::alloc::Global;
@@ -18,8 +18,11 @@ const SHORTEST: usize = 16;
 
 const LONGEST: usize = 1_024;
 
-/// What stands before a datagram as its tag is made, so that no other use of the key makes the same tag.
-const LABEL: [u8; 16] = *b"ringyew-datagram";
+/// What stands first as a tag is made, so that no other use of the key makes the same tag.
+const LABEL: [u8; 16] = *b"ringyew-numbered";
+
+/// The label of an older version, whose tag covers the datagram alone, and stands alone behind it.
+const OLD_LABEL: [u8; 16] = *b"ringyew-datagram";
 
 /// The key that the members of a session share: 16 to 1,024 bytes, best 32 random ones. Only who has the key can make a datagram's tag.
 #[derive(Drop)]
@@ -52,28 +55,56 @@ impl Key {
         Some(Key { bytes, pads })
     }
 
-    /// Returns the tag of a datagram: the first 16 bytes of the HMAC-SHA256 of `ringyew-datagram` and the datagram.
-    pub fn tag(&self, datagram: &[u8]) -> [u8; 16]
-        ensures { result ≡ tag_of self.now datagram.now }
+    /// Returns the tag of bytes that go to the member with this number: the first 16 bytes of the HMAC-SHA256 of `ringyew-numbered`, the number in a byte, and the bytes.
+    pub fn tag(&self, to: u8, bytes: &[u8]) -> [u8; 16]
+        ensures { result ≡ tag_of self.now to bytes.now }
     {
-        first_half(&self.pads.code(&LABEL, datagram))
+        first_half(&self.pads.code(&labelled(to), bytes))
     }
 
-    /// Returns how many of these bytes are the datagram, if its right tag follows it, and else `None`. It compares all bytes of the tag, so the time tells nothing of where they differ.
-    pub fn open(&self, bytes: &[u8]) -> Option<usize>
-        ensures { MatchOption result (HasNoTag (Some self.now) bytes.now) (λ count. (count ≤ length bytes.now) × (bytes.now ≡ tagged (Some self.now) (take count bytes.now))) }
+    /// Returns how many of these bytes stand before their tag, if the right one for this member stands at their end, and else `None`. It compares all bytes of the tag, so
+    /// the time tells nothing of where they differ.
+    pub fn open(&self, to: u8, bytes: &[u8]) -> Option<usize>
+        ensures { MatchOption result (HasNoTag self.now to bytes.now) (λ count. (count ≤ length bytes.now) × (count ≡ length bytes.now - 16) × (bytes.now ≡ tagged self.now to (take count bytes.now))) }
     {
         if bytes.len() < TAG_BYTES {
             return None;
         }
         let count = bytes.len() - TAG_BYTES;
-        let (datagram, tag) = bytes.split_at(count);
-        if is_same(&self.tag(datagram), tag) {
+        let (text, tag) = bytes.split_at(count);
+        if is_same(&self.tag(to, text), tag) {
             Some(count)
         } else {
             None
         }
     }
+
+    /// Returns whether an older version with this key sent these bytes. It takes as long as [`open`](Key::open).
+    pub(crate) fn has_old_tag(&self, bytes: &[u8]) -> bool
+        ensures { IsTrue result ↔ HasOldTag self.now bytes.now }
+    {
+        if bytes.len() < TAG_BYTES {
+            return false;
+        }
+        let (text, tag) = bytes.split_at(bytes.len() - TAG_BYTES);
+        is_same(&self.old_tag(text), tag)
+    }
+
+    // Returns the tag that an older version gave these bytes.
+    fn old_tag(&self, datagram: &[u8]) -> [u8; 16]
+        ensures { result ≡ old_tag_of self.now datagram.now }
+    {
+        first_half(&self.pads.code(&OLD_LABEL, datagram))
+    }
+}
+
+// Returns the label and a member's number.
+fn labelled(to: u8) -> [u8; 17]
+    ensures { result ≡ label ++ to ∷ [] }
+{
+    let mut text = [to; 17];
+    text[..LABEL.len()].copy_from_slice(&LABEL);
+    text
 }
 
 fn first_half(code: &[u8; 32]) -> [u8; 16]

@@ -2,29 +2,31 @@
 //!
 //! ```
 //! let key = Key::read(alloc, &mut file)?; // 16 to 1,024 bytes that all members share
-//! let guard = Guard::new(wire, alloc, Some(key), None)?; // tags what it sends, drops what has no right tag
+//! let seal = Seal::new(alloc, key, me, micros_of_the_day)?; // this member's counters begin above those of its last start
+//! let guard = Guard::new(wire, alloc, Some(seal))?; // numbers and tags what it sends, drops what has no right tag or came before
 //! ```
 //!
-//! **Drops.** With a [`Key`] the guard drops each datagram without its right tag. With a [`Limit`] it drops a datagram that would make more names missing than the member is to
-//! request. A network may lose any datagram, so a guard may drop it, and what holds of a node over any wire holds over a guard.
+//! **Drops.** With a [`Seal`] the guard drops each datagram without its right tag, and each whose counter came before or lies more than 4,095 below the greatest of its
+//! sender. A network may lose any datagram, so a guard may drop it, and what holds of a node over any wire holds over a guard.
 //!
-//! **Limits of a key.** It hides nothing, doesn't stop anyone from sending an old datagram again, and doesn't tell one member from another: a member that has the key may lie.
+//! **Limits of a key.** It hides nothing, doesn't stop anyone from holding a datagram back and delivering it later, and doesn't tell one member from another: a member
+//! that has the key may lie, and by one high counter put behind the window what another one sends. It is for one session: counters don't name theirs.
 //!
-//! [`Known`] is how a member tells the limit what it knows. [`Guard::dropped`] returns what was dropped, by cause ([`Dropped`]).
+//! [`Guard::dropped`] returns what was dropped, by cause ([`Dropped`]).
 //!
-//! **Errors.** [`Key::read`] returns a [`KeyFault`]. [`Guard::new`] and [`Known::new`] fail only if out of memory.
+//! **Errors.** [`Key::read`] returns a [`KeyFault`]. [`Guard::new`] and [`Seal::new`] fail only if out of memory.
 #![tactic(auto)]
 
 mod dropped;
 mod guard;
 mod hmac;
 mod key;
-mod known;
-mod limit;
+mod laws;
+mod seal;
 
 pub use dropped::Dropped;
 pub use guard::Guard;
 pub use hmac::hmac_sha256;
 pub use key::{Key, KeyFault, TAG_BYTES};
-pub use known::Known;
-pub use limit::Limit;
+pub use laws::{each_receive_opens, nothing_is_passed_on_twice};
+pub use seal::{Seal, TRAILER_BYTES};
