@@ -2,12 +2,12 @@
 use Rattle.std.proofs.Common.{◌≡◌, ◌≤◌, ℕ, List, [], ◌∷◌, length, take, refl, ap, sym, ◌∙◌, subst, inl, inr}
 use Rattle.srm_wire.specs.Wires.{answered, answered_with, bytes_to, none_there, it_failed}
 use Rattle.std.specs.Prelude.{Option, Some, None, IfSome, Result, Ok, Err, IfOk, IsErr, is_err}
-use Rattle.srm_udp.specs.declared.loss.Loss.{Loss}
+use Rattle.srm_wire.specs.declared.loss.Loss.{Loss}
 use Rattle.srm_udp.specs.declared.inbox.Next.{Next}
 use Rattle.srm_udp.specs.declared.inbox.Next.TheVariants.{Datagram, Failed}
 use Rattle.srm_udp.specs.Inboxes.{InboxView, GivesNext, NextFits, TakesIn, with_waiting, without_error}
 use Rattle.srm_udp.specs.Waiting.{Takes}
-use Rattle.srm_udp.specs.Udp.{UdpView, with_inbox, one_more_failure, one_more_loss, CountsEach, CountsReceive, ReceivesNext, AnswersNext, BringsNext, CountsSend, SendsOne, after_next, answer_of}
+use Rattle.srm_udp.specs.Udp.{UdpView, with_inbox, one_more_failure, one_more_loss, CountsEach, CountsReceive, ReceivesNext, AnswersNext, BringsNext, CountsSend, SendsOne, after_next, answer_of, posted}
 
 -- nothing changed, one more was lost, or one more call failed, and what waits is as it was
 pub none_counted : (old new : UdpView) → new ≡ old → new ≡ with_inbox new.inbox old
@@ -108,6 +108,6 @@ counts_send (Ok x) old new counts = counts
 counts_send (Err e) old new counts = counts
 
 pub sends_one : {T E : Type 0} (r : Result T E) (to : ℕ) (bytes : List ℕ) (old new : UdpView)
-    → TakesIn old.inbox new.inbox → CountsEach r old new → (length old.inbox.roster ≤ to → IsErr r)
+    → TakesIn old.inbox new.inbox → CountsEach r (posted (bytes_to to bytes) old) new → (length old.inbox.roster ≤ to → IsErr r)
     → SendsOne (bytes_to to bytes) (is_err r) old new
-sends_one r to bytes old new takes counts stranger = record { takes = takes; counts = counts_send r old new counts; stranger = stranger }
+sends_one r to bytes old new takes counts stranger = record { takes = takes; counts = counts_send r (posted (bytes_to to bytes) old) new counts; stranger = stranger }

@@ -1,4 +1,6 @@
 mod Cutting
 mod Arriving
 mod Counting
+mod Posting
 mod Resting
+mod Naming

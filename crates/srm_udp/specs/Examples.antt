@@ -1,28 +1,39 @@
 -- A wire over UDP at worked calls.
-use Rattle.std.specs.Prelude.{◌≡◌, ◌<◌, ℕ, true, [], ◌∷◌, Some, None, refl}
+use Rattle.std.specs.Prelude.{◌≡◌, ◌<◌, ℕ, true, false, List, [], ◌∷◌, get_or, Some, None, refl}
 use Rattle.std.specs.declared.net.socket_addr.SocketAddr.{SocketAddr}
 use Rattle.std.specs.declared.io.ErrorKind.{ErrorKind}
-use Rattle.std.proofs.Common.{arith, inl}
+use Rattle.std.proofs.Common.{ap, arith, inl, inr, subst, sym, ◌∙◌}
 use Rattle.srm_wire.specs.Wires.{greatest_count, answered_with, bytes_to, none_there}
 use Rattle.srm_udp.specs.Clocks.{NeverFalls}
-use Rattle.srm_udp.specs.declared.loss.Loss.TheVariants.{Denied}
-use Rattle.srm_udp.specs.Inboxes.{Arrives, new_inbox, none_dropped, one_stranger}
-use Rattle.srm_udp.specs.Losses.{no_losses}
+use Rattle.srm_wire.specs.declared.loss.Loss.TheVariants.{Denied}
+use Rattle.srm_udp.specs.Inboxes.{Arrival, ArriveEach, InboxView, heard, Arrives, IsAddressOf, SamePlace, named_sender, new_inbox, TakesIn, none_dropped, one_overflowed, one_stranger}
+use Rattle.srm_wire.specs.Counts.{no_drops, no_losses, only_failed}
 use Rattle.srm_udp.specs.declared.first_failure.WireFailure.TheVariants.{Send, Receive}
 use Rattle.srm_udp.specs.Failures.{IsOfWire}
 use Rattle.srm_udp.specs.Resting.{PausesRested, came_with, rest_of}
 use Rattle.srm_udp.specs.Waiting.{cut, Takes}
-use Rattle.srm_udp.specs.Udp.{BringsNext, SendsOne, new_wire, one_more_failure, one_more_loss}
+use Rattle.srm_udp.specs.Posts.{Post, post}
+use Rattle.srm_udp.specs.Udp.{UdpView, BringsNext, CountsSend, SendsOne, counted_by, new_wire, one_more_failure, one_more_loss, posted}
 
-the_first_failure : one_more_failure (new_wire []) ≡ record { inbox = new_inbox []; failures = 1; losses = no_losses }
+the_first_failure : one_more_failure (new_wire []) ≡ record { inbox = new_inbox []; failures = 1; losses = no_losses; went = [] }
 the_first_failure = refl
 
-the_greatest_count_stays : one_more_failure (record { inbox = new_inbox []; failures = greatest_count; losses = no_losses }) ≡ record { inbox = new_inbox []; failures = greatest_count; losses = no_losses }
+the_greatest_count_stays : one_more_failure (record (new_wire []) { failures = greatest_count }) ≡ record (new_wire []) { failures = greatest_count }
 the_greatest_count_stays = refl
 
 -- a datagram that a firewall forbids counts as denied, and as nothing else
-the_first_loss : one_more_loss Denied (new_wire []) ≡ record { inbox = new_inbox []; failures = 0; losses = record no_losses { denied = 1 } }
+the_first_loss : one_more_loss Denied (new_wire []) ≡ record (new_wire []) { losses = record no_losses { denied = 1 } }
 the_first_loss = refl
+
+-- what it has counted: a failure, a loss by its kind, and what was dropped by its cause
+counts_a_failure : counted_by (one_more_failure (new_wire [])) ≡ only_failed 1
+counts_a_failure = refl
+
+counts_a_loss : counted_by (one_more_loss Denied (new_wire [])) ≡ record (only_failed 0) { lost = record no_losses { denied = 1 } }
+counts_a_loss = refl
+
+counts_what_is_dropped : (counted_by (record (new_wire []) { inbox = record (new_inbox []) { dropped = one_stranger (one_overflowed none_dropped) } })).dropped ≡ record no_drops { strangers = 1; overflowed = 1 }
+counts_what_is_dropped = refl
 
 -- a clock that told 5 may tell 5 again, and not 4
 tells_5_again : NeverFalls (record { last = Some 5 }) 5 (record { last = Some 5 })
@@ -51,9 +62,47 @@ not_the_second h = cc (h.1)
 not_none : Takes ((3 ∷ []) ∷ []) [] None ((3 ∷ []) ∷ []) → ⊥
 not_none h = cc (h.0)
 
+-- one that came was returned by a call of the socket, and waits
+one_came_in : (origin : SocketAddr) → ArriveEach (record { origin = origin; bytes = 7 ∷ [] } ∷ []) (new_inbox []) (record (new_inbox []) { came = post origin (7 ∷ []) ∷ []; waiting = (7 ∷ []) ∷ [] })
+one_came_in origin = (record (new_inbox []) { came = post origin (7 ∷ []) ∷ []; waiting = (7 ∷ []) ∷ [] }, inr (λ strange. not_true strange.0, inr (λ only. absurd (not_true only), inl refl)), refl)
+  where
+    not_true : false ≡ true → ⊥
+    not_true e = cc
+
+-- none comes that no call returned
+not_out_of_nothing : (a : Arrival) (new : InboxView) → new.came ≡ [] → Arrives a (heard a (new_inbox [])) new → ⊥
+not_out_of_nothing a new none came = differ new.came none (came_one came)
+  where
+    came_one : Arrives a (heard a (new_inbox [])) new → new.came ≡ post a.origin a.bytes ∷ []
+    came_one (inl (strange, is)) = ap (λ (b : InboxView). b.came) is
+    came_one (inr (known, inl (other, is))) = ap (λ (b : InboxView). b.came) is
+    came_one (inr (known, inr (own, inl is))) = ap (λ (b : InboxView). b.came) is
+    came_one (inr (known, inr (own, inr (full, is)))) = ap (λ (b : InboxView). b.came) is
+
+    differ : (all : List Post) → all ≡ [] → all ≡ post a.origin a.bytes ∷ [] → ⊥
+    differ all h k = cc
+
 -- whoever sends to a roster without members is a stranger
 a_stranger_is_dropped : (origin : SocketAddr) → Arrives (record { origin = origin; bytes = 1 ∷ [] }) (record (new_inbox []) { only_roster = true }) (record (new_inbox []) { only_roster = true; dropped = one_stranger none_dropped })
 a_stranger_is_dropped origin = inl ((refl, λ h. h), refl)
+
+-- the sender of a datagram is its ninth byte
+a_datagram_names_its_sender : named_sender (83 ∷ 82 ∷ 1 ∷ 3 ∷ 0 ∷ 0 ∷ 0 ∷ 7 ∷ 2 ∷ 1 ∷ []) ≡ Some 2
+a_datagram_names_its_sender = refl
+
+-- and one that ends before it names none
+one_cut_off_names_none : named_sender (83 ∷ 82 ∷ 1 ∷ 3 ∷ 0 ∷ 0 ∷ 0 ∷ 7 ∷ []) ≡ None
+one_cut_off_names_none = refl
+
+noise_names_none : named_sender (1 ∷ 2 ∷ 3 ∷ 4 ∷ 5 ∷ 6 ∷ 7 ∷ 8 ∷ 9 ∷ []) ≡ None
+noise_names_none = refl
+
+-- of two members the second may not send as the first
+not_as_another : (one other : SocketAddr) → (SamePlace one other → ⊥) → IsAddressOf (one ∷ other ∷ []) (Some 0) other → ⊥
+not_as_another one other apart (address, is, same) = apart (subst (λ (a : SocketAddr). SamePlace a other) (sym (some_is one address is)) same)
+  where
+    some_is : (x y : SocketAddr) → Some x ≡ Some y → x ≡ y
+    some_is x y e = cc
 
 -- a denied datagram is told before the one that waits, and the receive returns None then
 a_loss_comes_first : BringsNext (Some (Some Denied)) ((1 ∷ []) ∷ []) 4 none_there (new_wire []) (one_more_loss Denied (new_wire []))
@@ -70,6 +119,33 @@ nobody_is_there = record {
   counts = refl;
   stranger = λ few. refl;
 }
+
+looks_at_nothing : (roster : List SocketAddr) → TakesIn (new_inbox roster) (new_inbox roster)
+looks_at_nothing roster = record { arrivals = []; between = new_inbox roster; came = refl; then_error = refl; waits = λ error is. refl }
+
+abbrev two_members : SocketAddr → SocketAddr → UdpView
+two_members one other = new_wire (one ∷ other ∷ [])
+
+-- one byte to the second of two members is passed to the system for its address
+one_byte_goes : (one other : SocketAddr) → SendsOne (bytes_to 1 (7 ∷ [])) false (two_members one other) (record (two_members one other) { went = post other (7 ∷ []) ∷ [] })
+one_byte_goes one other = record { takes = looks_at_nothing (one ∷ other ∷ []); counts = inl refl; stranger = λ few. absurd (omega (arith, few)) }
+
+-- of what went the first byte, and of nothing 0
+abbrev first_byte : List Post → ℕ
+first_byte [] = 0
+first_byte (post ∷ more) = get_or post.bytes 0 0
+
+what_went : (one other : SocketAddr) (new : UdpView) → CountsSend false (posted (bytes_to 1 (7 ∷ [])) (two_members one other)) new → new.went ≡ post other (7 ∷ []) ∷ []
+what_went one other new (inl is) = ap (λ (w : UdpView). w.went) is
+what_went one other new (inr (kind, is)) = ap (λ (w : UdpView). w.went) is
+
+-- and not another one
+not_another_byte : (one other : SocketAddr) (new : UdpView) → new.went ≡ post other (8 ∷ []) ∷ [] → SendsOne (bytes_to 1 (7 ∷ [])) false (two_members one other) new → ⊥
+not_another_byte one other new went h = let same : 8 ≡ 7 = sym (ap first_byte went) ∙ ap first_byte (what_went one other new h.counts) in absurd (omega (arith, same))
+
+-- nor none
+not_nothing : (one other : SocketAddr) (new : UdpView) → new.went ≡ [] → SendsOne (bytes_to 1 (7 ∷ [])) false (two_members one other) new → ⊥
+not_nothing one other new none h = let same : 0 ≡ 7 = sym (ap first_byte none) ∙ ap first_byte (what_went one other new h.counts) in absurd (omega (arith, same))
 
 -- a pause rests after two datagrams, for 100 microseconds at most and no longer than it lasts; what the wire below pauses is the rest of it
 rests_after_two : rest_of 2 10000 ≡ 100

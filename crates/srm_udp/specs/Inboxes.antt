@@ -1,39 +1,50 @@
 -- What came to a socket and waits to be received.
-use Rattle.std.specs.Prelude.{◌≡◌, ◌⊎◌, ◌≤◌, ℕ, Bool, true, false, List, [], ◌∷◌, ◌++◌, length, Option, Some, None, IfSome}
+use Rattle.std.specs.Prelude.{◌≡◌, ◌⊎◌, ◌≤◌, ◌==◌, ◌&&◌, ℕ, get_or, slice_get, if◌then◌else◌, Bool, true, false, List, [], ◌∷◌, ◌++◌, length, Option, Some, None, IfSome}
 use Rattle.std.specs.Net.Socket.{socket_ip, socket_port}
 use Rattle.std.specs.declared.net.socket_addr.SocketAddr.{SocketAddr}
 use Rattle.srm_wire.specs.Wires.{one_more}
-use Rattle.srm_udp.specs.declared.loss.Loss.{Loss}
+use Rattle.srm_wire.specs.declared.counts.Dropped.{Dropped as DroppedByCause}
+use Rattle.srm_wire.specs.Counts.{no_drops}
+use Rattle.srm_wire.specs.declared.loss.Loss.{Loss}
 use Rattle.srm_udp.specs.declared.dropped.Dropped.{Dropped}
 use Rattle.srm_udp.specs.declared.inbox.Told.{Told}
 use Rattle.srm_udp.specs.declared.inbox.Told.TheVariants.{Datagram, Nothing, Failed}
 use Rattle.srm_udp.specs.declared.inbox.Next.{Next}
 use Rattle.srm_udp.specs.declared.inbox.Next.TheVariants.{Datagram as ADatagram, Failed as AFailure}
+use Rattle.srm_udp.specs.Posts.{Post, post}
 use Rattle.srm_udp.specs.Waiting.{IsFull, Takes}
 
--- The members' addresses, whether datagrams from elsewhere are dropped, the datagrams that wait, oldest first, how many were dropped, and the error that the system told and no receive answered
+-- The members' addresses, whether datagrams from elsewhere are dropped, all that the socket's calls returned, the datagrams that wait, each oldest first, how many were dropped, and the error that the system told and no receive answered
 -- yet: a loss of some kind, or a failure
 pub record InboxView : Type 0 where
   pub roster : List SocketAddr
   pub only_roster : Bool
+  pub came : List Post
   pub waiting : List (List ℕ)
   pub dropped : Dropped
   pub pending : Option (Option Loss)
 
 -- nothing was dropped yet
 abbrev pub none_dropped : Dropped
-none_dropped = record { strangers = 0; overflowed = 0 }
+none_dropped = record { strangers = 0; misnamed = 0; overflowed = 0 }
 
 -- one more was dropped
 abbrev pub one_stranger : Dropped → Dropped
 one_stranger d = record d { strangers = one_more d.strangers }
 
+abbrev pub one_misnamed : Dropped → Dropped
+one_misnamed d = record d { misnamed = one_more d.misnamed }
+
 abbrev pub one_overflowed : Dropped → Dropped
 one_overflowed d = record d { overflowed = one_more d.overflowed }
 
+-- these with no datagram dropped for another cause
+abbrev pub by_cause : Dropped → DroppedByCause
+by_cause d = record no_drops { strangers = d.strangers; misnamed = d.misnamed; overflowed = d.overflowed }
+
 -- no datagram waits or was dropped yet
 abbrev pub new_inbox : List SocketAddr → InboxView
-new_inbox roster = record { roster = roster; only_roster = false; waiting = []; dropped = none_dropped; pending = None }
+new_inbox roster = record { roster = roster; only_roster = false; came = []; waiting = []; dropped = none_dropped; pending = None }
 
 -- the inbox once its error was answered
 abbrev pub without_error : InboxView → InboxView
@@ -57,27 +68,46 @@ pub record Arrival : Type 0 where
   pub origin : SocketAddr
   pub bytes : List ℕ
 
+-- a call of the socket returned it besides
+abbrev pub heard : Arrival → InboxView → InboxView
+heard a b = record b { came = b.came ++ post a.origin a.bytes ∷ [] }
+
 -- the inbox keeps to the roster, and this isn't the address of a member
 abbrev pub IsStrange : SocketAddr → InboxView → Type 0
 IsStrange origin b = (b.only_roster ≡ true) × (IsOfRoster b.roster origin → ⊥)
 
--- A datagram came. A stranger's is dropped and counted. Any other waits behind all that wait, unless there may be no room, which is counted.
+-- The member that bytes name as their sender: the ninth byte of what begins as each datagram does, with `SR`. Anything else names none.
+abbrev pub named_sender : List ℕ → Option ℕ
+named_sender bytes = if get_or bytes 0 0 == 83 && get_or bytes 1 0 == 82 then slice_get bytes 8 else None
+
+-- the origin is the address of the sender, if one is named
+abbrev pub IsAddressOf : List SocketAddr → Option ℕ → SocketAddr → Type 0
+IsAddressOf roster None origin = Unit {0}
+IsAddressOf roster (Some sender) origin = (address : SocketAddr) × (slice_get roster sender ≡ Some address) × SamePlace address origin
+
+-- if the inbox keeps to the roster, this came from the address of the sender that it names
+abbrev pub IsFromSender : Arrival → InboxView → Type 0
+IsFromSender a b = b.only_roster ≡ true → IsAddressOf b.roster (named_sender a.bytes) a.origin
+
+-- A datagram came. A stranger's is dropped and counted, and so is one that names another sender than the member of its origin. Any other waits behind all that wait,
+-- unless there may be no room, which is counted.
 abbrev pub Arrives : Arrival → InboxView → InboxView → Type 0
 Arrives a old new = (IsStrange a.origin old × (new ≡ record old { dropped = one_stranger old.dropped }))
-    ⊎ ((IsStrange a.origin old → ⊥) × ((new ≡ with_waiting (old.waiting ++ a.bytes ∷ []) old) ⊎ (IsFull old.waiting a.bytes × (new ≡ record old { dropped = one_overflowed old.dropped }))))
+    ⊎ ((IsStrange a.origin old → ⊥) × (((IsFromSender a old → ⊥) × (new ≡ record old { dropped = one_misnamed old.dropped }))
+    ⊎ (IsFromSender a old × ((new ≡ with_waiting (old.waiting ++ a.bytes ∷ []) old) ⊎ (IsFull old.waiting a.bytes × (new ≡ record old { dropped = one_overflowed old.dropped }))))))
 
--- these came, one after another
+-- the socket's calls returned these, one after another, and each came
 abbrev pub ArriveEach : List Arrival → InboxView → InboxView → Type 0
 ArriveEach [] old new = new ≡ old
-ArriveEach (a ∷ more) old new = (between : InboxView) × Arrives a old between × ArriveEach more between new
+ArriveEach (a ∷ more) old new = (between : InboxView) × Arrives a (heard a old) between × ArriveEach more between new
 
 -- What one call of the system tells is taken in: a datagram, that nothing is there, or an error.
 abbrev pub TakesOne : Told → InboxView → InboxView → Type 0
-TakesOne Datagram old new = (a : Arrival) × Arrives a old new
+TakesOne Datagram old new = (a : Arrival) × Arrives a (heard a old) new
 TakesOne Nothing old new = new ≡ old
 TakesOne Failed old new = (error : Option Loss) × (new ≡ record old { pending = Some error })
 
--- What lies in the socket is taken in: so many came, and behind them perhaps an error. While an error is pending nothing is.
+-- What lies in the socket is taken in: its calls returned so many, and behind them perhaps an error. While an error is pending nothing is.
 pub record TakesIn (old new : InboxView) : Type 0 where
   pub arrivals : List Arrival
   pub between : InboxView

@@ -3,6 +3,8 @@ pub mod Losses
 pub mod Failures
 pub mod Waiting
 pub mod Inboxes
+pub mod Noting
+pub mod Posts
 pub mod Udp
 pub mod Resting
 pub mod Examples

@@ -1,4 +1,4 @@
--- Which answers of the system are loss and no failure, and how many there were of each kind.
+-- Which answers of the system are loss and no failure.
 use Rattle.std.specs.Prelude.{◌≡◌, ℤ, pos, if◌then◌else◌, Bool, List, [], ◌∷◌, Option, Some, None}
 use Rattle.std.specs.List.{list_any}
 use Rattle.std.specs.IoError.{error_kind, raw_os_error}
@@ -6,10 +6,8 @@ use Rattle.std.specs.Ordering.{int_eq}
 use Rattle.std.specs.declared.io.Error.{Error}
 use Rattle.std.specs.declared.io.ErrorKind.{ErrorKind}
 use Rattle.std.specs.declared.io.ErrorKind.TheVariants.{WouldBlock, ConnectionRefused}
-use Rattle.srm_wire.specs.Wires.{one_more}
-use Rattle.srm_udp.specs.declared.loss.Loss.{Loss}
-use Rattle.srm_udp.specs.declared.loss.Loss.TheVariants.{NoWay, Denied, TooLong, NoRoom, PortClosed}
-use Rattle.srm_udp.specs.declared.loss.Losses.{Losses}
+use Rattle.srm_wire.specs.declared.loss.Loss.{Loss}
+use Rattle.srm_wire.specs.declared.loss.Loss.TheVariants.{NoWay, Denied, TooLong, NoRoom, PortClosed}
 
 -- By these numbers Linux says that a datagram didn't go its way: the network or the host is down, or there is no way to it (100, 101, 112, 113), it isn't allowed
 -- to go, as a firewall has it (1, 13), it is too long for the way (90), or there is no room for it (105).
@@ -43,15 +41,3 @@ loss_of e = loss_by (error_kind e) (raw_os_error e)
 -- the error tells a loss of some kind
 abbrev pub IsLoss : Error → Type 0
 IsLoss e = (kind : Loss) × (loss_of e ≡ Some kind)
-
--- nothing was lost yet
-abbrev pub no_losses : Losses
-no_losses = record { no_way = 0; denied = 0; too_long = 0; no_room = 0; port_closed = 0 }
-
--- one more of a kind, up to the greatest number of 64 bits
-abbrev pub with_loss : Loss → Losses → Losses
-with_loss NoWay l = record l { no_way = one_more l.no_way }
-with_loss Denied l = record l { denied = one_more l.denied }
-with_loss TooLong l = record l { too_long = one_more l.too_long }
-with_loss NoRoom l = record l { no_room = one_more l.no_room }
-with_loss PortClosed l = record l { port_closed = one_more l.port_closed }

@@ -1,29 +1,45 @@
 -- What contracts see of a wire over UDP.
-use Rattle.std.specs.Prelude.{◌≡◌, ◌⊎◌, ◌==◌, ◌≤◌, ℕ, if◌then◌else◌, Bool, true, false, not, List, [], ◌∷◌, length, take, Option, Some, None, is_none, Result, Ok, Err}
+use Rattle.std.specs.Prelude.{◌≡◌, ◌⊎◌, ◌==◌, ◌≤◌, ℕ, if◌then◌else◌, Bool, true, false, not, List, [], ◌∷◌, ◌++◌, length, slice_get, take, Option, Some, None, is_none, Result, Ok, Err}
 use Rattle.std.specs.declared.io.Error.{Error}
 use Rattle.std.specs.declared.net.socket_addr.SocketAddr.{SocketAddr}
 use Rattle.srm_wire.specs.declared.sent.Sent.{Sent}
+use Rattle.srm_wire.specs.declared.counts.WireCounts.{WireCounts}
 use Rattle.srm_wire.specs.Wires.{one_more, answered_with, none_there, it_failed}
-use Rattle.srm_udp.specs.declared.loss.Loss.{Loss}
-use Rattle.srm_udp.specs.declared.loss.Losses.{Losses}
+use Rattle.srm_wire.specs.declared.loss.Loss.{Loss}
+use Rattle.srm_wire.specs.declared.loss.Losses.{Losses}
 use Rattle.srm_udp.specs.declared.inbox.Next.{Next}
 use Rattle.srm_udp.specs.declared.inbox.Next.TheVariants.{Datagram, Failed}
-use Rattle.srm_udp.specs.Inboxes.{InboxView, TakesIn, new_inbox, with_waiting, without_error}
-use Rattle.srm_udp.specs.Losses.{loss_of, no_losses, with_loss}
+use Rattle.srm_udp.specs.Inboxes.{InboxView, TakesIn, by_cause, new_inbox, with_waiting, without_error}
+use Rattle.srm_wire.specs.Counts.{no_losses, with_loss}
+use Rattle.srm_udp.specs.Losses.{loss_of}
+use Rattle.srm_udp.specs.Posts.{Post, post, posts_to}
 
--- what came and waits, with the members' addresses, how many calls failed, and how many datagrams were lost of each kind
+-- what came and waits, with the members' addresses, how many calls failed, how many datagrams were lost of each kind, and what was passed to the system, oldest first
 pub record UdpView : Type 0 where
   pub inbox : InboxView
   pub failures : ℕ
   pub losses : Losses
+  pub went : List Post
 
--- a wire to the members at these addresses: no call failed, no datagram waits, and none was lost
+-- a wire to the members at these addresses: no call failed, no datagram waits, and none was sent or lost
 abbrev pub new_wire : List SocketAddr → UdpView
-new_wire roster = record { inbox = new_inbox roster; failures = 0; losses = no_losses }
+new_wire roster = record { inbox = new_inbox roster; failures = 0; losses = no_losses; went = [] }
+
+-- what it has counted
+abbrev pub counted_by : UdpView → WireCounts
+counted_by w = record { failures = w.failures; lost = w.losses; dropped = by_cause w.inbox.dropped }
 
 -- a wire with what came and waits by now
 abbrev pub with_inbox : InboxView → UdpView → UdpView
 with_inbox inbox w = record w { inbox = inbox }
+
+-- these bytes were passed to the system besides, for this address
+abbrev pub passed : SocketAddr → List ℕ → UdpView → UdpView
+passed address bytes w = record w { went = w.went ++ post address bytes ∷ [] }
+
+-- what is sent to a member was passed to the system besides, for the member's address
+abbrev pub posted : Sent → UdpView → UdpView
+posted sent w = record w { went = w.went ++ posts_to (slice_get w.inbox.roster sent.to) sent.bytes }
 
 -- one more failure, up to the greatest number of 64 bits
 abbrev pub one_more_failure : UdpView → UdpView
@@ -91,8 +107,9 @@ abbrev pub CountsSend : Bool → UdpView → UdpView → Type 0
 CountsSend false old new = (new ≡ with_inbox new.inbox old) ⊎ ((kind : Loss) × (new ≡ one_more_loss kind (with_inbox new.inbox old)))
 CountsSend true old new = new ≡ one_more_failure (with_inbox new.inbox old)
 
--- A send: what lies in the socket may be taken in, and the call is counted. One to a member without an address fails.
+-- A send: what lies in the socket may be taken in, exactly these bytes are passed to the system for the member's address, and the call is counted. One to a member
+-- without an address fails, and passes nothing.
 pub record SendsOne (sent : Sent) (failed : Bool) (old new : UdpView) : Type 0 where
   pub takes : TakesIn old.inbox new.inbox
-  pub counts : CountsSend failed old new
+  pub counts : CountsSend failed (posted sent old) new
   pub stranger : length old.inbox.roster ≤ sent.to → failed ≡ true

@@ -1,5 +1,5 @@
 -- Datagrams that came and wait to be received.
-use Rattle.std.specs.Prelude.{◌≡◌, ◌⊎◌, ℕ, zero, ◌+◌, ◌≤◌, List, [], ◌∷◌, length, take, drop, Option, MatchOption}
+use Rattle.std.specs.Prelude.{◌≡◌, ◌⊎◌, ℕ, ◌+◌, ◌≤◌, List, [], ◌∷◌, length, take, drop, Option, MatchOption}
 
 -- how many bytes these have together
 abbrev pub total : List ℕ → ℕ

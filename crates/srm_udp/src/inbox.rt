@@ -1,14 +1,16 @@
 //! What came to a socket and waits to be received.
 
-ghost use Rattle.std.specs.Prelude.{◌≡◌, ◌↔◌, ◌<◌, true, length, is_some, slice_get, IfOk, IfSome, IsTrue};
-ghost use Rattle.srm_udp.specs.Inboxes.{Arrives, GivesNext, IsStrange, NextFits, TakesIn, TakesOne, new_inbox};
+ghost use Rattle.std.specs.Prelude.{◌≡◌, ◌↔◌, ◌<◌, ◌≤◌, true, length, is_some, slice_get, take, IfOk, IfSome, IsTrue, MatchResult};
+ghost use Rattle.srm_udp.specs.Inboxes.{Arrives, GivesNext, IsFromSender, IsStrange, NextFits, TakesIn, TakesOne, heard, new_inbox};
 
 use crate::backlog::Backlog;
 use crate::dropped::Dropped;
 use crate::first_failure::FirstFailure;
-use crate::loss::{Loss, loss_of};
-use crate::roster::is_of_roster;
-use mio::net::UdpSocket;
+use crate::intake::Intake;
+use crate::loss::loss_of;
+use crate::outlet::Outlet;
+use crate::roster::{is_address_of, is_of_roster, named_sender};
+use srm_wire::Loss;
 use std::alloc::{AllocError, Global};
 use std::io;
 use std::io::ErrorKind;
@@ -19,11 +21,12 @@ use std::sync::Arc;
 /// Datagrams that are taken in at once, at most.
 const TAKEN_AT_ONCE: usize = 256;
 
-/// What came to a socket and waits to be received, less what is dropped. It allocates only in `new`.
+/// What came to a socket and waits to be received, less what is dropped. Contracts see all that came. It allocates only in `new`.
 #[derive(Drop)]
 pub(crate) struct Inbox {
     roster: Vec<SocketAddr>,
     only_roster: bool,
+    intake: Intake,
     backlog: Backlog,
     dropped: Dropped,
     // The error that the system told on receiving and that no receive answered yet: the kind of a loss, or None where the socket failed.
@@ -51,7 +54,7 @@ impl Model for Inbox {
 
     ghost Value = { InboxView };
 
-    ghost view = { λ b. record { roster = b.roster.items; only_roster = b.only_roster; waiting = b.backlog; dropped = b.dropped; pending = b.pending } };
+    ghost view = { λ b. record { roster = b.roster.items; only_roster = b.only_roster; came = b.intake; waiting = b.backlog; dropped = b.dropped; pending = b.pending } };
 }
 
 impl Inbox {
@@ -66,6 +69,7 @@ impl Inbox {
         Ok(Inbox {
             roster,
             only_roster: false,
+            intake: Intake::new(),
             backlog: Backlog::new(alloc)?,
             dropped: Dropped::none(),
             pending: None,
@@ -109,7 +113,7 @@ impl Inbox {
 
     /// Takes in what lies in the socket, up to 256 datagrams, each by way of `room`, and returns whether nothing is left there. It stops at an error, and takes nothing while one is pending.
     #[tactic(auto, using(crate::proofs::Arriving::arrived_none, crate::proofs::Arriving::arrived_more, crate::proofs::Arriving::takes_nothing, crate::proofs::Arriving::takes_all, crate::proofs::Arriving::takes_error))]
-    pub(crate) fn take_in(&mut self, socket: &UdpSocket, room: &mut [u8]) -> bool
+    pub(crate) fn take_in(&mut self, socket: &Outlet, room: &mut [u8]) -> bool
         ensures { TakesIn self.old self.new }
     {
         if self.has_error() {
@@ -125,11 +129,21 @@ impl Inbox {
         false
     }
 
+    // Receives by one call of the system.
+    fn hear(&mut self, socket: &Outlet, room: &mut [u8]) -> io::Result<(usize, SocketAddr)>
+        ensures { MatchResult result (λ got. (got.0 ≤ length room.new) × (self.new ≡ heard (record { origin = got.1; bytes = take got.0 room.new }) self.old)) (λ _. self.new ≡ self.old) }
+    {
+        match self.intake.take(socket, room) {
+            Ok(got) => Ok(got),
+            Err(error) => Err(error),
+        }
+    }
+
     // Takes in what one call of the system tells.
-    fn take_one(&mut self, socket: &UdpSocket, room: &mut [u8]) -> Told
+    fn take_one(&mut self, socket: &Outlet, room: &mut [u8]) -> Told
         ensures { TakesOne result self.old self.new }
     {
-        match socket.recv_from(room) {
+        match self.hear(socket, room) {
             Ok((count, origin)) => {
                 self.admit(origin, &room[..count]);
                 Told::Datagram
@@ -149,6 +163,8 @@ impl Inbox {
     {
         if self.is_strange(origin) {
             self.dropped.count_stranger();
+        } else if !self.is_from_sender(origin, datagram) {
+            self.dropped.count_misnamed();
         } else if !self.backlog.push(datagram) {
             self.dropped.count_overflowed();
         }
@@ -159,6 +175,13 @@ impl Inbox {
         ensures { IsTrue result ↔ IsStrange origin self.now }
     {
         self.only_roster && !is_of_roster(self.roster.as_slice(), origin)
+    }
+
+    // Whether what comes from there may be passed on by the sender that it names.
+    fn is_from_sender(&self, origin: SocketAddr, datagram: &[u8]) -> bool
+        ensures { IsTrue result ↔ IsFromSender (record { origin = origin; bytes = datagram.now }) self.now }
+    {
+        !self.only_roster || is_address_of(self.roster.as_slice(), named_sender(datagram), origin)
     }
 
     /// Moves the next datagram into a buffer, cut to it. An error comes before all datagrams.

@@ -12,14 +12,17 @@
 //!
 //! **Errors.** [`UdpWire::bind`] fails if the system refuses, and if out of memory. A `send` or `receive` fails if the system returns an error that is no loss
 //! ([`loss_of`]). A lost datagram is requested again, so a member that ends and closes its port ends no other. [`UdpWire::losses`] counts losses by kind,
-//! [`UdpWire::dropped`] what was received and dropped. [`FirstFailure`] tells which call failed first, and why.
+//! [`UdpWire::dropped`] what was received and dropped, and [`counts`](srm_wire::Wire::counts) has both. [`FirstFailure`] tells which call failed first, and why.
 #![tactic(auto)]
 
 mod backlog;
 mod dropped;
 mod first_failure;
 mod inbox;
+mod intake;
 mod loss;
+mod noted;
+mod outlet;
 mod rested;
 mod room;
 mod roster;
@@ -31,8 +34,9 @@ mod wire_waker;
 
 pub use dropped::Dropped;
 pub use first_failure::{FirstFailure, WireFailure};
-pub use loss::{Loss, Losses, is_loss, loss_of};
+pub use loss::{is_loss, loss_of};
 pub use rested::Rested;
+pub use srm_wire::{Loss, Losses};
 pub use system_clock::SystemClock;
 pub use udp_wire::UdpWire;
 pub use wire_waker::WireWaker;

@@ -6,7 +6,7 @@ ghost use Rattle.srm_udp.specs.Resting.{came_with, new_rested, rest_of};
 
 use crate::loss::one_more;
 use srm_names::Member;
-use srm_wire::{Wire, WireFault};
+use srm_wire::{Wire, WireCounts, WireFault};
 use std::marker::Model;
 use std::thread;
 use std::time::{Clock, Duration};
@@ -66,6 +66,8 @@ impl<R: Clock + Drop, X: Wire + Drop> Wire for Rested<R, X> {
 
     ghost told = { λ r. X.told r.wire };
 
+    ghost counted = { λ r. X.counted r.wire };
+
     ghost sends = { λ r sent failed s. SendsRested X.sends r sent failed s };
 
     ghost receives = { λ r room answer s. ReceivesRested X.receives r room answer s };
@@ -95,6 +97,10 @@ impl<R: Clock + Drop, X: Wire + Drop> Wire for Rested<R, X> {
 
     fn failures(&self) -> u64 {
         self.wire.failures()
+    }
+
+    fn counts(&self) -> WireCounts {
+        self.wire.counts()
     }
 }
 

@@ -1,7 +1,7 @@
 //! Which addresses are a member's.
 
-ghost use Rattle.std.specs.Prelude.{◌↔◌, IsTrue};
-ghost use Rattle.srm_udp.specs.Inboxes.{IsOfRoster, SamePlace};
+ghost use Rattle.std.specs.Prelude.{◌≡◌, ◌↔◌, IsTrue};
+ghost use Rattle.srm_udp.specs.Inboxes.{IsAddressOf, IsOfRoster, SamePlace, named_sender};
 
 use std::net::SocketAddr;
 
@@ -20,4 +20,31 @@ fn is_same_place(one: SocketAddr, other: SocketAddr) -> bool
     ensures { IsTrue result ↔ SamePlace one other }
 {
     one.ip() == other.ip() && one.port() == other.port()
+}
+
+/// Bytes before the sender of a datagram.
+const SENDER_PLACE: usize = 8;
+
+/// Returns the number of the member that bytes name as their sender, if they begin as a datagram does and are long enough.
+pub(crate) fn named_sender(bytes: &[u8]) -> Option<u8>
+    ensures { result ≡ named_sender bytes.now }
+{
+    match bytes {
+        [b'S', b'R', ..] => bytes.get(SENDER_PLACE).copied(),
+        _ => None,
+    }
+}
+
+#[tactic(auto, using(crate::proofs::Naming::not_at, crate::proofs::Naming::no_member))]
+/// Returns whether the sender, if there is one, is a member of this roster and has the origin's address there.
+pub(crate) fn is_address_of(roster: &[SocketAddr], sender: Option<u8>, origin: SocketAddr) -> bool
+    ensures { IsTrue result ↔ IsAddressOf roster.now sender origin }
+{
+    let Some(sender) = sender else {
+        return true;
+    };
+    match roster.get(usize::from(sender)) {
+        Some(address) => is_same_place(*address, origin),
+        None => false,
+    }
 }

@@ -1,21 +1,22 @@
 //! A wire over UDP.
 
-ghost use Rattle.std.specs.Prelude.{◌≡◌, ◌<◌, ◌≤◌, [], Some, None, length, true, is_err, is_none, vec_len, IfOk, IfSome, IsErr, IsErrAnd};
+ghost use Rattle.std.specs.Prelude.{◌≡◌, ◌<◌, ◌≤◌, [], Some, None, length, slice_get, true, is_err, is_none, vec_len, IfOk, IfSome, IsErr, IsErrAnd};
 ghost use Rattle.std.specs.IoError.{error_kind};
 ghost use Rattle.srm_wire.specs.Wires.{CountsIf, TellsMore, answered, bytes_to, sent_by};
 ghost use Rattle.srm_udp.specs.Inboxes.{GivesNext, NextFits, TakesIn};
-ghost use Rattle.srm_udp.specs.Udp.{AnswersNext, CountsEach, CountsReceive, ReceivesNext, SendsOne, after_error, after_next, after_send, new_wire, one_more_failure, send_fails, with_inbox};
+ghost use Rattle.srm_udp.specs.Udp.{AnswersNext, CountsEach, CountsReceive, ReceivesNext, SendsOne, after_error, after_next, after_send, new_wire, one_more_failure, passed, posted, send_fails, with_inbox};
 
 use crate::dropped::Dropped;
 use crate::first_failure::FirstFailure;
 use crate::inbox::{Inbox, Next};
-use crate::loss::{Loss, Losses, loss_of};
+use crate::loss::loss_of;
+use crate::outlet::Outlet;
 use crate::room::ask_for_room;
 use crate::wire_waker::WireWaker;
 use mio::net::UdpSocket;
 use mio::{Events, Interest, Poll, Token};
 use srm_names::Member;
-use srm_wire::{Wire, WireFault, count_failure};
+use srm_wire::{Loss, Losses, Wire, WireCounts, WireFault, count_failure};
 use std::alloc::{AllocError, Global};
 use std::io;
 use std::io::ErrorKind;
@@ -43,7 +44,7 @@ const CALLS: u8 = 16;
 /// comes beyond is dropped and counted. All memory is allocated as the wire is made.
 #[derive(Drop)]
 pub struct UdpWire {
-    socket: UdpSocket,
+    socket: Outlet,
     inbox: Inbox,
     // Where the system puts a datagram.
     room: Vec<u8>,
@@ -64,7 +65,7 @@ impl Model for UdpWire {
 
     ghost Value = { UdpView };
 
-    ghost view = { λ w. record { inbox = w.inbox; failures = w.failures; losses = w.losses } };
+    ghost view = { λ w. record { inbox = w.inbox; failures = w.failures; losses = w.losses; went = w.socket } };
 }
 
 impl UdpWire {
@@ -106,7 +107,7 @@ impl UdpWire {
             .register(&mut socket, SOCKET, Interest::READABLE)?;
         let waker = Arc::new(alloc, WireWaker::new(poll.registry(), WAKER)?)?;
         Ok(UdpWire {
-            socket,
+            socket: Outlet::new(socket),
             inbox: Inbox::new(alloc, addresses, Arc::try_clone(&failure)?)?,
             room: vec![in alloc; 0; LONGEST]?,
             calls: 0,
@@ -137,7 +138,7 @@ impl UdpWire {
         self.losses
     }
 
-    /// Drops and counts from now on what doesn't come from the address of a member. The system tells where a datagram comes from, and a sender may forge that. What waits already stays.
+    /// Drops and counts from now on what doesn't come from the address of a member, and what names another sender than the member of the address that it comes from. The system tells where a datagram comes from, and a sender may forge that. What waits already stays.
     pub fn keep_to_roster(&mut self)
         ensures { self.new ≡ record self.old { inbox = record self.old.inbox { only_roster = true } } }
     {
@@ -210,13 +211,21 @@ impl UdpWire {
         }
     }
 
+    // Passes bytes to the system.
+    fn pass(&mut self, address: SocketAddr, datagram: &[u8]) -> io::Result<usize>
+        ensures { self.new ≡ passed address datagram.now self.old }
+    {
+        self.socket.send_to(datagram, address)
+    }
+
+    #[tactic(auto, using(crate::proofs::Posting::passed_on))]
     // Sends bytes to a member's address, and counts what the system answers.
     fn send_to(&mut self, to: Member, address: SocketAddr, datagram: &[u8]) -> Result<(), WireFault>
         ensures failures { CountsIf (is_err result) self.old.failures self.new.failures }
-        ensures each { CountsEach result self.old self.new }
+        ensures each { CountsEach result (passed address datagram.now self.old) self.new }
         ensures inbox { self.new.inbox ≡ self.old.inbox }
     {
-        let answer = self.socket.send_to(datagram, address);
+        let answer = self.pass(address, datagram);
         self.failure.note_send(to, &answer);
         self.settle_send(datagram.len(), answer)
     }
@@ -250,17 +259,25 @@ impl UdpWire {
 }
 
 impl UdpWire {
-    #[tactic(auto, using(crate::proofs::Counting::each_behind, crate::proofs::Counting::failure_counted))]
+    // Returns the address of a member, if it has one.
+    fn address(&self, to: Member) -> Option<SocketAddr>
+        ensures value { result ≡ slice_get self.now.inbox.roster to }
+        ensures place { IfSome result (λ address. to < length self.now.inbox.roster) }
+    {
+        self.inbox.address(to.index())
+    }
+
+    #[tactic(auto, using(crate::proofs::Posting::posted_behind, crate::proofs::Posting::unposted))]
     // Takes in what lies in the socket where that is due, and sends bytes to a member.
     fn send_counted(&mut self, to: Member, datagram: &[u8]) -> Result<(), WireFault>
         ensures failures { CountsIf (is_err result) self.old.failures self.new.failures }
         ensures takes { TakesIn self.old.inbox self.new.inbox }
-        ensures each { CountsEach result self.old self.new }
+        ensures each { CountsEach result (posted (bytes_to to datagram.now) self.old) self.new }
         ensures stranger { length self.old.inbox.roster ≤ to → IsErr result }
     {
-        let address = self.inbox.address(to.index());
+        let found = self.address(to);
         self.look(false);
-        match address {
+        match found {
             Some(address) => self.send_to(to, address, datagram),
             None => Err(self.fail()),
         }
@@ -269,11 +286,13 @@ impl UdpWire {
 
 impl Wire for UdpWire {
     ghost use Rattle.std.specs.Prelude.{◌≡◌, None};
-    ghost use Rattle.srm_udp.specs.Udp.{ReceivesNext, SendsOne};
+    ghost use Rattle.srm_udp.specs.Udp.{ReceivesNext, SendsOne, counted_by};
 
     ghost failure_count = { λ w. w.failures };
 
     ghost told = { λ w. None };
+
+    ghost counted = { counted_by };
 
     ghost sends = { λ w sent failed h. SendsOne sent failed w h };
 
@@ -282,12 +301,12 @@ impl Wire for UdpWire {
     ghost pauses = { λ w micros h. h ≡ w };
 
     #[tactic(auto, using(crate::proofs::Counting::sends_one))]
-    /// Sends a datagram by one call of the system, without copying it. What the system says was lost is counted by its kind, and is no error: a datagram of more
+    /// Sends a datagram by one call of the system, without copying it: contracts see its bytes, and the address that they were for. What the system says was lost is counted by its kind, and is no error: a datagram of more
     /// than 65,507 bytes counts as [`Loss::TooLong`]. Fails, and counts a failure, if the member has no address, the system sends only a part, or its error is no
     /// loss. Before each sixteenth call it takes in what lies in the socket.
     fn send(&mut self, to: Member, datagram: &[u8]) -> Result<(), WireFault>
         ensures failures { CountsIf (is_err result) self.old.failures self.new.failures }
-        ensures each { CountsEach result self.old self.new }
+        ensures each { CountsEach result (posted (bytes_to to datagram.now) self.old) self.new }
         ensures tells { TellsMore [] (sent_by to datagram.now result) None None }
         ensures sends { SendsOne (bytes_to to datagram.now) (is_err result) self.old self.new }
     {
@@ -333,6 +352,14 @@ impl Wire for UdpWire {
 
     fn failures(&self) -> u64 {
         self.failures
+    }
+
+    fn counts(&self) -> WireCounts {
+        WireCounts {
+            failures: self.failures,
+            lost: self.losses,
+            dropped: self.inbox.dropped().by_cause(),
+        }
     }
 }
 
