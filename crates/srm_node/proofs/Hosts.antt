@@ -1,13 +1,14 @@
 -- Workers that are joined one after another, and the lanes of a node that ran.
-use Rattle.std.proofs.Common.{◌≡◌, ℕ, zero, suc, ◌+◌, ◌≤◌, Bool, true, false, List, [], ◌∷◌, ◌++◌, length, map, refl, ap, sym, ◌∙◌, subst, append_assoc, arith, add-one}
+use Rattle.std.proofs.Common.{◌≡◌, ℕ, zero, suc, ◌+◌, ◌≤◌, Bool, true, false, List, [], ◌∷◌, ◌++◌, ◌<◌, drop, length, map, refl, ap, sym, ◌∙◌, subst, append_assoc, arith, add-one}
 use Rattle.std.specs.Prelude.{Option, Some, None, slice_get, Result, Ok, Err, IfOk, MatchBool, MatchResult, is_ok}
 use Rattle.std.specs.Bool.{OnTrue, OnFalse}
 use Rattle.std.specs.List.{zip}
 use Rattle.srm_node.specs.declared.fault.NodeFault.{NodeFault}
 use Rattle.srm_node.specs.declared.hosting.Hosted.{Hosted}
 use Rattle.srm_node.specs.declared.hosting.NodeEnds.{NodeEnds}
-use Rattle.std.proofs.lemmas.List.{append-nil, length-append}
+use Rattle.std.proofs.lemmas.List.{append-nil}
 use Rattle.std.proofs.lemmas.Option.{same_Some, slice_get_within}
+use Rattle.srm_names.specs.declared.limits.TheConstants.{PAGES}
 use Rattle.srm_names.proofs.Lists.{at_place}
 use Rattle.srm_pages.specs.Ends.{FeedView, TapView, WellView}
 use Rattle.srm_pages.specs.declared.stroke.Stroke.{Stroke}
@@ -22,8 +23,8 @@ use Rattle.srm_control.specs.declared.command.PageCommand.{PageCommand}
 use Rattle.srm_control.specs.declared.command.PageRefusal.{PageRefusal}
 use Rattle.srm_control.specs.Ends.{CommandsView, looked_once, with_found, FindsBehind, Finds, AnswersThat, Answers}
 use Rattle.srm_world.specs.Traces.{Journal}
-use Rattle.srm_node.specs.Showing.{Obeys, ObeysFound, ShowsAsked}
-use Rattle.srm_node.specs.Hosting.{Kinds, start_of, StartsSome, StopsBy, WorkedAs, WorkedEach, Joins, Hosts, HostsWith, HostFails, HostFailsWith, SameWell, SameLines, AreEndsOfLanes}
+use Rattle.srm_node.specs.Showing.{ObeysFound, ShowsAsked}
+use Rattle.srm_node.specs.Hosting.{Kinds, start_of, StartsUpTo, StopsBy, WorkedAs, WorkedEach, Joins, Hosts, HostsWith, HostStopsWith, HostFails, HostFailsWith, SameWell, SameLines, AreEndsOfLanes}
 use Rattle.srm_node.proofs.Gives.{same_on}
 
 each-snoc : {L S : Type 0} (kinds : Kinds L S) (ts : List (TapView × S)) (ws : List (Worked L)) (t : TapView × S) (w : Worked L) → WorkedEach kinds ts ws → WorkedAs kinds t w → WorkedEach kinds (ts ++ t ∷ []) (ws ++ w ∷ [])
@@ -190,8 +191,8 @@ lines_of_turns {X} {C} calls (suc n) a b (before, paused, runs, goes_on, waits, 
 -- what is returned of a node that ran, and of its workers
 pub hosted : {P L S X C : Type 0} (calls : Calls X C) (kinds : Kinds L S) (r : Result (Unit {0}) NodeFault) (node last : NodeView X C) (starts : List (TapView × S)) (turns : ℕ) (all : Bool) (ends : NodeEnds) (h : Hosted P L) (feeds : List FeedView) (keeps : Bool)
     → MatchResult r (λ _. (all ≡ true) × NodeKeepsLists last × RunsToEnd calls turns node last) (λ fault. StopsBy calls all fault turns node last) → NodeKeepsLists last
-    → h.journal ≡ last.journal → feeds ≡ last.feeds → ends.well ≡ last.well → ends.commands ≡ last.control → OnTrue keeps (h.feeds.items ≡ feeds) → OnFalse keeps (h.feeds.items ≡ []) → keeps ≡ is_ok r → WorkedEach kinds starts h.worked.items
-    → MatchResult r (λ _. (all ≡ true) × HostsWith calls kinds node starts turns ends h) (λ fault. HostFailsWith calls kinds all node starts turns fault ends h)
+    → h.history.journal ≡ last.journal → feeds ≡ last.feeds → ends.well ≡ last.well → ends.commands ≡ last.control → OnTrue keeps (h.feeds.items ≡ feeds) → OnFalse keeps (h.feeds.items ≡ []) → keeps ≡ is_ok r → WorkedEach kinds starts h.worked.items
+    → MatchResult r (λ _. (all ≡ true) × HostsWith calls kinds node starts turns ends h) (λ fault. HostStopsWith calls kinds all node starts turns fault ends h)
 hosted calls kinds (Ok u) node last starts turns all ends h feeds keeps ran lists journal same well_is control_is kept none ok workers = (
   ran.0,
   (
@@ -209,60 +210,87 @@ hosted calls kinds (Ok u) node last starts turns all ends h feeds keeps ran list
     control_is,
   ),
 )
-hosted {P} {L} {S} {X} {C} calls kinds (Err e) node last starts turns all ends h feeds keeps ran lists journal same well_is control_is kept none ok workers = (
+hosted calls kinds (Err e) node last starts turns all ends h feeds keeps ran lists journal same well_is control_is kept none ok workers = (
   record {
     last = last;
     runs = ran;
     keeps = lists;
     journal = journal;
     feeds = (let k : h.feeds.items ≡ [] = subst (λ b. OnFalse b (h.feeds.items ≡ [])) ok none in k);
-    started = starts;
-    rest = [];
-    split = append-nil starts;
-    whole = no_more all [];
     workers = workers;
   },
   well_is,
   control_is,
 )
-  where
-    no_more : (b : Bool) (ts : List (TapView × S)) → OnTrue b (ts ≡ ts)
-    no_more true ts = refl
-    no_more false ts = tt
 
--- nothing stands behind what is the whole already
-none_behind : {A : Type 0} (xs ys all : List A) → xs ++ ys ≡ all → xs ≡ all → ys ≡ []
-none_behind xs [] all split whole = refl
-none_behind xs (y ∷ ys) all split whole = absurd (omega (arith, ap length split, ap length whole, length-append xs (y ∷ ys)))
+-- WORKERS THAT ARE STARTED ONE AFTER ANOTHER
+
+firsts : {S : Type 0} (ts : List TapView) (ss : List S) → length ts ≡ length ss → map (λ (s : TapView × S). s.0) (zip ts ss) ≡ ts
+firsts [] ss same = refl
+firsts (t ∷ ts) [] same = absurd (omega (arith, same))
+firsts (t ∷ ts) (s ∷ ss) same = ap (λ xs. t ∷ xs) (firsts ts ss (omega (arith, same)))
+
+-- where the first tap and sink that are left got no worker, the taps behind it are left
+pub starts_before : {L S : Type 0} (workers more : List (Worker L S)) (taps left : List TapView) (sinks : List S) (starts : List (TapView × S)) (done : ℕ) (started : Bool)
+    → map start_of workers ++ zip taps sinks ≡ starts → length taps + done ≡ PAGES → length sinks + done ≡ PAGES → done < PAGES → started ≡ false → OnFalse started (map start_of more ≡ map start_of workers) → left ≡ drop 1 taps
+    → StartsUpTo false starts (map start_of more) left
+starts_before workers more [] left sinks starts done started split taps_are sinks_are within none same behind = absurd (omega (arith, taps_are, within))
+starts_before workers more (t ∷ ts) left [] starts done started split taps_are sinks_are within none same behind = absurd (omega (arith, sinks_are, within))
+starts_before workers more (t ∷ ts) left (s ∷ ss) starts done started split taps_are sinks_are within none same behind =
+    let kept : map start_of more ≡ map start_of workers = subst (λ b. OnFalse b (map start_of more ≡ map start_of workers)) none same in
+    let as_many : length ts ≡ length ss = omega (arith, taps_are, sinks_are) in
+    record {
+      others = zip (t ∷ ts) (s ∷ ss);
+      split = ap (λ xs. xs ++ zip (t ∷ ts) (s ∷ ss)) kept ∙ split;
+      behind = firsts ts ss as_many ∙ sym behind;
+      whole = tt;
+    }
+
+-- with no tap left a worker was started with each
+pub starts_whole : {L S : Type 0} (workers : List (Worker L S)) (taps : List TapView) (sinks : List S) (starts : List (TapView × S)) (done : ℕ) → map start_of workers ++ zip taps sinks ≡ starts → length taps + done ≡ PAGES → PAGES ≤ done
+    → StartsUpTo true starts (map start_of workers) taps
+starts_whole workers [] sinks starts done split taps_are past = record { others = []; split = split; behind = refl; whole = refl }
+starts_whole workers (t ∷ ts) sinks starts done split taps_are past = absurd (omega (arith, taps_are, past))
+
+-- the same of the lists that a queue of taps and one of sinks were made of
+pub starts_the_same : {S : Type 0} (all : Bool) (taps queued : List TapView) (sinks lined : List S) (started : List (TapView × S)) (left rest : List TapView) → queued ≡ taps → lined ≡ sinks → rest ≡ left
+    → StartsUpTo all (zip queued lined) started left → StartsUpTo all (zip taps sinks) started rest
+starts_the_same all taps queued sinks lined started left rest taps_are sinks_are rest_is h =
+    subst (λ ts. StartsUpTo all (zip ts sinks) started rest) taps_are
+    (subst (λ ss. StartsUpTo all (zip queued ss) started rest) sinks_are
+    (subst (λ ls. StartsUpTo all (zip queued lined) started ls) (sym rest_is) h))
+
+whole_starts : {S : Type 0} (all : Bool) (starts started : List (TapView × S)) (left : List TapView) → all ≡ true → StartsUpTo all starts started left → (started ≡ starts) × (left ≡ [])
+whole_starts {S} all starts started left is h =
+    let none : h.others ≡ [] = subst (λ b. OnTrue b (h.others ≡ [])) is h.whole in (
+      sym (append-nil started) ∙ ap (λ xs. started ++ xs) (sym none) ∙ h.split,
+      sym h.behind ∙ ap (λ xs. map (λ (s : TapView × S). s.0) (drop 1 xs)) none,
+    )
 
 -- what is returned of the taps and sinks that were passed in
-pub host_ends : {P L S X C : Type 0} (calls : Calls X C) (kinds : Kinds L S) (r : Result (Unit {0}) NodeFault) (node : NodeView X C) (starts : List (TapView × S)) (workers : List (Worker L S)) (turns : ℕ) (all : Bool) (ends : NodeEnds) (h : Hosted P L) → StartsSome starts workers → OnTrue all (map start_of workers ≡ starts)
-    → MatchResult r (λ _. (all ≡ true) × HostsWith calls kinds node (map start_of workers) turns ends h) (λ fault. HostFailsWith calls kinds all node (map start_of workers) turns fault ends h)
+pub host_ends : {P L S X C : Type 0} (calls : Calls X C) (kinds : Kinds L S) (r : Result (Unit {0}) NodeFault) (node : NodeView X C) (starts : List (TapView × S)) (workers : List (Worker L S)) (left : List TapView) (turns : ℕ) (all : Bool) (ends : NodeEnds) (h : Hosted P L) → StartsUpTo all starts (map start_of workers) left → h.left.items ≡ left
+    → MatchResult r (λ _. (all ≡ true) × HostsWith calls kinds node (map start_of workers) turns ends h) (λ fault. HostStopsWith calls kinds all node (map start_of workers) turns fault ends h)
     → MatchResult r (λ _. HostsWith calls kinds node starts turns ends h) (λ fault. (all : Bool) × HostFailsWith calls kinds all node starts turns fault ends h)
-host_ends calls kinds (Ok u) node starts workers turns all ends h some whole ran = subst (λ ts. HostsWith calls kinds node ts turns ends h) (let w : map start_of workers ≡ starts = subst (λ b. OnTrue b (map start_of workers ≡ starts)) ran.0 whole in w) ran.1
-host_ends calls kinds (Err fault) node starts workers turns all ends h some whole (f, well_is, control_is) = (
+host_ends calls kinds (Ok u) node starts workers left turns all ends h up_to left_is ran = subst (λ ts. HostsWith calls kinds node ts turns ends h) (whole_starts all starts (map start_of workers) left ran.0 up_to).0 ran.1
+host_ends calls kinds (Err fault) node starts workers left turns all ends h up_to left_is (stops, well_is, control_is) = (
   all,
   (
     record {
-      last = f.last;
-      runs = f.runs;
-      keeps = f.keeps;
-      journal = f.journal;
-      feeds = f.feeds;
-      started = f.started;
-      rest = f.rest ++ some.rest;
-      split = sym (append_assoc f.started f.rest some.rest) ∙ ap (λ ts. ts ++ some.rest) f.split ∙ some.split;
-      whole = no_rest all whole f.whole;
-      workers = f.workers;
+      started = map start_of workers;
+      up_to = subst (λ ls. StartsUpTo all starts (map start_of workers) ls) (sym left_is) up_to;
+      stops = stops;
     },
     well_is,
     control_is,
   ),
 )
-  where
-    no_rest : (b : Bool) → OnTrue b (map start_of workers ≡ starts) → OnTrue b (f.rest ≡ []) → OnTrue b (f.rest ++ some.rest ≡ [])
-    no_rest true same none = ap (λ ts. ts ++ some.rest) none ∙ none_behind (map start_of workers) some.rest starts some.split same
-    no_rest false same none = tt
+
+-- without fault no tap is left
+pub host_left : {P L S X C : Type 0} (calls : Calls X C) (kinds : Kinds L S) (r : Result (Unit {0}) NodeFault) (node : NodeView X C) (starts : List (TapView × S)) (workers : List (Worker L S)) (left : List TapView) (turns : ℕ) (all : Bool) (ends : NodeEnds) (h : Hosted P L) → StartsUpTo all starts (map start_of workers) left → h.left.items ≡ left
+    → MatchResult r (λ _. (all ≡ true) × HostsWith calls kinds node (map start_of workers) turns ends h) (λ fault. HostStopsWith calls kinds all node (map start_of workers) turns fault ends h)
+    → IfOk r (λ _. h.left.items ≡ [])
+host_left calls kinds (Ok u) node starts workers left turns all ends h up_to left_is ran = left_is ∙ (whole_starts all starts (map start_of workers) left ran.0 up_to).1
+host_left calls kinds (Err fault) node starts workers left turns all ends h up_to left_is ran = tt
 
 worked_at : {L S : Type 0} (kinds : Kinds L S) (ts : List TapView) (ss : List S) (ws : List (Worked L)) (k : ℕ) (t : TapView) → WorkedEach kinds (zip ts ss) ws → slice_get (map (λ (w : Worked L). w.tap) ws) k ≡ Some t → (s : TapView) × (slice_get ts k ≡ Some s) × (t.lane ≡ s.lane)
 worked_at kinds [] ss [] k t h at_t = cc

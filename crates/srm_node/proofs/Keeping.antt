@@ -37,12 +37,15 @@ use Rattle.srm_world.specs.Recording.{with_entry, with_entries, HearsEach}
 use Rattle.srm_world.proofs.Lawful.{lawful_journal}
 use Rattle.srm_node.specs.declared.fault.OutOfMemory.{OutOfMemory}
 use Rattle.srm_wire.specs.Wires.{Told, answered_with}
+use Rattle.srm_node.specs.declared.missing_limit.MissingLimit.{MissingLimit}
+use Rattle.srm_node.specs.Limits.{entries_of}
 use Rattle.srm_node.specs.Carrying.{Carries, CarriesEach, drew, draw_inputs, drawing, DrawsReceived, KeepsLists}
 use Rattle.srm_node.specs.Parts.{Listens, Listened, ListenedCut, DrawsStrokes, DrewStrokes, DrewStrokesCut, Leaves, Ticks, GivesUpTo, GaveSome, is_give}
 use Rattle.srm_node.specs.Showing.{page_of, CarriesOut, ObeysFound, ShowsAsked, ShowsAskedCut}
 use Rattle.srm_node.specs.Nodes.{NodeView, IsNode, AreNewFeeds, has_closed}
 use Rattle.srm_node.specs.declared.listening.Listening.{Listening}
 use Rattle.srm_node.specs.declared.drawing.Drawn.{Drawn}
+use Rattle.srm_node.proofs.Limiting.{heard_of, heard_each}
 use Rattle.srm_node.proofs.Releasing.{puts_released}
 use Rattle.srm_node.proofs.Gives.{carries_standing}
 use Rattle.srm_node.proofs.Draws.{inputs_drawn}
@@ -110,19 +113,19 @@ quiet_heard now j [] (e ∷ es) h = absurd h
 quiet_heard now j (b ∷ bs) [] h = absurd h
 quiet_heard now j (b ∷ bs) (e ∷ es) h = (subst Quiet (sym (ap (λ (p : Input × Verdict). p.0) h.0.heard)) (quiet_bytes j.start.config j.entries b), quiet_heard now (with_entry j e) bs es h.1)
 
-node_hears : {X C : Type 0} (R : X → ℕ → List (Option (List ℕ)) → X → Type 0) (now : ℕ) (n : NodeView X C) (k : Journal) (failures : ℕ) (told : Option Told) (wire : X) (config : Config) (room : ℕ) (closed : List Bool) (count : ℕ) (last : List (List (Option (List ℕ)))) → IsNode n config room closed → IsLawfulJournal k
-    → Listens R now count last n.journal k n.told told n.wire wire → IsNode (record n { journal = k; failures = failures; told = told; wire = wire }) config room closed
-node_hears R now n k failures told wire config room closed count last h lawful l = record {
-  lists = keeps_quiet n.journal k l.entries n.feeds n.well.received n.hand h.lists lawful l.grown (quiet_heard now n.journal l.came l.entries l.each);
-  settings = settings_of n.journal k l.entries l.grown ∙ h.settings;
+node_hears : {X C : Type 0} (R : X → ℕ → List (Option (List ℕ)) → X → Type 0) (now : ℕ) (n : NodeView X C) (limit : MissingLimit) (k : Journal) (failures : ℕ) (told : Option Told) (wire : X) (config : Config) (room : ℕ) (closed : List Bool) (count : ℕ) (last : List (List (Option (List ℕ)))) → IsNode n config room closed → IsLawfulJournal k
+    → Listens R now count last n.limit limit n.journal k n.told told n.wire wire → IsNode (record n { limit = limit; journal = k; failures = failures; told = told; wire = wire }) config room closed
+node_hears R now n limit k failures told wire config room closed count last h lawful l = record {
+  lists = keeps_quiet n.journal k (entries_of l.outcomes) n.feeds n.well.received n.hand h.lists lawful l.grown (quiet_heard now n.journal (heard_of l.came l.outcomes) (entries_of l.outcomes) (heard_each now n.limit.most n.journal l.came l.outcomes l.each));
+  settings = settings_of n.journal k (entries_of l.outcomes) l.grown ∙ h.settings;
   room_is = h.room_is;
   closed_are = h.closed_are;
 }
 
-pub node_listened : {X C : Type 0} (R : X → ℕ → List (Option (List ℕ)) → X → Type 0) (now : ℕ) (n : NodeView X C) (k : Journal) (failures : ℕ) (told : Option Told) (wire : X) (config : Config) (room : ℕ) (closed : List Bool) (r : Result Listening OutOfMemory) → IsNode n config room closed → IsLawfulJournal k
-    → MatchResult r (λ l. Listened R now l.count l.failed n.journal k n.told told n.wire wire) (λ _. ListenedCut R now n.journal k n.told told n.wire wire) → IsNode (record n { journal = k; failures = failures; told = told; wire = wire }) config room closed
-node_listened R now n k failures told wire config room closed (Ok l) h lawful x = node_hears R now n k failures told wire config room closed l.count x.last h lawful x.listens
-node_listened R now n k failures told wire config room closed (Err e) h lawful x = node_hears R now n k failures told wire config room closed x.count (answered_with x.lost ∷ []) h lawful x.listens
+pub node_listened : {X C : Type 0} (R : X → ℕ → List (Option (List ℕ)) → X → Type 0) (now : ℕ) (n : NodeView X C) (limit : MissingLimit) (k : Journal) (failures : ℕ) (told : Option Told) (wire : X) (config : Config) (room : ℕ) (closed : List Bool) (r : Result Listening OutOfMemory) → IsNode n config room closed → IsLawfulJournal k
+    → MatchResult r (λ l. Listened R now l.count l.failed n.limit limit n.journal k n.told told n.wire wire) (λ _. ListenedCut R now n.limit limit n.journal k n.told told n.wire wire) → IsNode (record n { limit = limit; journal = k; failures = failures; told = told; wire = wire }) config room closed
+node_listened R now n limit k failures told wire config room closed (Ok l) h lawful x = node_hears R now n limit k failures told wire config room closed l.count x.last h lawful x.listens
+node_listened R now n limit k failures told wire config room closed (Err e) h lawful x = node_hears R now n limit k failures told wire config room closed x.count (answered_with x.lost ∷ []) h lawful x.listens
 
 -- READING THE CLOCK, AND WAITING
 

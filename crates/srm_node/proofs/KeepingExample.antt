@@ -40,7 +40,7 @@ keeps_parted lane well none = record {
 }
 
 -- The member left in the node's one turn, and the worker of slot 0 took what was put, which its sink saw.
-hosted : {P L : Type 0} (entries_of : L → List PageMsg) (lane : LaneId) (well : WellView) (w : Worked L) (h : Hosted P L) → well.received ≡ [] → WorkedAs (counting entries_of) (tap 0 [] lane, 0) w → h.journal ≡ (parting.ended lane well).journal → h.feeds.items ≡ (parting.ended lane well).feeds → h.worked.items ≡ w ∷ []
+hosted : {P L : Type 0} (entries_of : L → List PageMsg) (lane : LaneId) (well : WellView) (w : Worked L) (h : Hosted P L) → well.received ≡ [] → WorkedAs (counting entries_of) (tap 0 [] lane, 0) w → h.history.journal ≡ (parting.ended lane well).journal → h.feeds.items ≡ (parting.ended lane well).feeds → h.worked.items ≡ w ∷ []
     → Hosts calls (counting entries_of) (parting.first_of_all lane well) (one_start lane) 5 h
 hosted entries_of lane well w h none worked journal_is feeds_are worked_is = record {
   last = parting.ended lane well;
@@ -53,18 +53,18 @@ hosted entries_of lane well w h none worked journal_is feeds_are worked_is = rec
   workers = subst (WorkedEach (counting entries_of) (one_start lane)) (sym worked_is) (worked, tt);
 }
 
--- No worker could be started: the node wasn't turned, and its feeds were let go.
-not_started : {P L : Type 0} (entries_of : L → List PageMsg) (lane : LaneId) (well : WellView) (h : Hosted P L) → well.received ≡ [] → h.journal ≡ (before lane well).journal → h.feeds.items ≡ [] → h.worked.items ≡ []
+-- No worker could be started, and no tap is behind the one that it was to take from: the node wasn't turned, and its feeds were dropped.
+not_started : {P L : Type 0} (entries_of : L → List PageMsg) (lane : LaneId) (well : WellView) (h : Hosted P L) → well.received ≡ [] → h.history.journal ≡ (before lane well).journal → h.feeds.items ≡ [] → h.worked.items ≡ [] → h.left.items ≡ []
     → HostFails calls (counting entries_of) false (before lane well) (one_start lane) 5 Memory h
-not_started entries_of lane well h none journal_is feeds_are worked_are = record {
-  last = before lane well;
-  runs = inr (refl, refl, refl);
-  keeps = keeps_new (journal []) (feeds [] lane) well.received refl (new_feeds lane) none;
-  journal = journal_is;
-  feeds = feeds_are;
+not_started entries_of lane well h none journal_is feeds_are worked_are left_is = record {
   started = [];
-  rest = one_start lane;
-  split = refl;
-  whole = tt;
-  workers = subst (WorkedEach (counting entries_of) []) (sym worked_are) tt;
+  up_to = record { others = one_start lane; split = refl; behind = sym left_is; whole = tt };
+  stops = record {
+    last = before lane well;
+    runs = inr (refl, refl, refl);
+    keeps = keeps_new (journal []) (feeds [] lane) well.received refl (new_feeds lane) none;
+    journal = journal_is;
+    feeds = feeds_are;
+    workers = subst (WorkedEach (counting entries_of) []) (sym worked_are) tt;
+  };
 }

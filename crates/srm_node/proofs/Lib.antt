@@ -1,4 +1,5 @@
 pub mod Dispatching
+pub mod Limiting
 pub mod Hears
 pub mod Rightly
 pub mod Tallies
@@ -11,6 +12,7 @@ pub mod Obeying
 pub mod Closing
 pub mod Keeping
 pub mod Waiting
+pub mod ShortPauses
 pub mod Turning
 pub mod Timing
 pub mod Works

@@ -10,6 +10,7 @@ use Rattle.srm_control.specs.Ends.{CommandsView}
 use Rattle.srm_entries.specs.declared.entry.Entry.{Entry}
 use Rattle.srm_entries.specs.declared.entry.Input.TheVariants.{AskedLeave}
 use Rattle.srm_world.specs.Traces.{Journal}
+use Rattle.srm_world.specs.RecordStarts.{RecordStart}
 use Rattle.srm_world.specs.WaitWords.{RecorderView}
 use Rattle.srm_entries.specs.Configs.{Config}
 use Rattle.srm_world.specs.Recording.{with_entry, with_entries, IsAt, IsHearing, EntersEach}
@@ -17,11 +18,15 @@ use Rattle.srm_world.proofs.HearsAll.{at, grown_on, grows_nothing}
 use Rattle.srm_node.specs.declared.fault.NodeFault.{NodeFault}
 use Rattle.srm_node.specs.declared.fault.NodeFault.TheVariants.{Wire, Memory, Turns}
 use Rattle.srm_node.specs.Calls.{Calls}
-use Rattle.srm_node.specs.Parts.{IsDrawing, is_give}
+use Rattle.srm_wire.specs.Wires.{Told, answered_with}
+use Rattle.srm_node.specs.declared.missing_limit.MissingLimit.{MissingLimit}
+use Rattle.srm_node.specs.Limits.{entries_of}
+use Rattle.srm_node.specs.Parts.{Listens, IsDrawing, is_give}
 use Rattle.srm_node.specs.Showing.{page_of, CarriesOut, ObeysFound, ShowsAsked, ShowsAskedCut}
 use Rattle.srm_node.specs.Nodes.{NodeView, NodeState, IsMadeNow, moment_of}
 use Rattle.srm_node.specs.Turns.{ReadsNow, HearsNow, LooksNow, DrawsNow, LeavesNow, TurnToLeaving, TurnToShowing, TurnToTick, Turned, TurnEnds, IsCut}
 use Rattle.srm_node.specs.Moments.{AreMadeAt, GrowsAt, GrowsNow}
+use Rattle.srm_node.proofs.Limiting.{heard_of, heard_each}
 
 -- ONE JOURNAL BEHIND ANOTHER
 
@@ -64,8 +69,15 @@ given_at : (now : ℕ) (j : Journal) (es : List Entry) → AllByRecursion (λ (e
 given_at now j [] h = tt
 given_at now j (e ∷ es) h = (inl h.0, given_at now (with_entry j e) es h.1)
 
+listened_at : {X : Type 0} (R : X → ℕ → List (Option (List ℕ)) → X → Type 0) (now n : ℕ) (last : List (List (Option (List ℕ)))) (limit kept : MissingLimit) (a b : Journal) (s t : Option Told) (x y : X) → Listens R now n last limit kept a b s t x y → GrowsAt now a b
+listened_at R now n last limit kept a b s t x y l = record {
+  entries = entries_of l.outcomes;
+  grown = l.grown;
+  made = entered_at (IsHearing now) now (λ j bytes e h. h.moment) a (heard_of l.came l.outcomes) (entries_of l.outcomes) (heard_each now limit.most a l.came l.outcomes l.each);
+}
+
 hears_at : {X C : Type 0} (R : X → ℕ → List (Option (List ℕ)) → X → Type 0) (now n : ℕ) (u : Bool) (a b : NodeView X C) → HearsNow R now n u a b → GrowsAt now a.journal b.journal
-hears_at R now n u a b h = let l = h.listened.listens in record { entries = l.entries; grown = l.grown; made = entered_at (IsHearing now) now (λ j bytes e h. h.moment) a.journal l.came l.entries l.each }
+hears_at R now n u a b h = listened_at R now n h.listened.last a.limit b.limit a.journal b.journal a.told b.told a.wire b.wire h.listened.listens
 
 draws_at : {X C : Type 0} (now most : ℕ) (w : Bool) (a b : NodeView X C) → DrawsNow now most w a b → GrowsAt now a.journal b.journal
 draws_at now most w a b h = let d = h.drew.draws.draws in record { entries = d.entries; grown = d.grown; made = entered_at (IsDrawing now) now (λ j s e h. h.moment) a.journal d.strokes d.entries d.each }
@@ -134,8 +146,8 @@ module _ {X C : Type 0} where
       (grows_on p.now a.journal t.ticked.journal b.journal (to_tick_at calls u v a t.ticked p) (record { entries = g.entries; grown = g.grown; made = given_at p.now t.ticked.journal g.entries g.inputs }))
 
   cut_at : (calls : Calls X C) (a b : NodeView X C) → IsCut calls a b → GrowsNow calls.reads a b
-  cut_at calls a b (inl t) = let l = t.hears.listened.listens in by_reading calls t.now a t.read b t.reads (ap clock_of t.hears.same)
-      (grows_from t.now a.journal t.read.journal b.journal (sym (ap journal_of t.reads.same)) (record { entries = l.entries; grown = l.grown; made = entered_at (IsHearing t.now) t.now (λ j bytes e h. h.moment) t.read.journal l.came l.entries l.each }))
+  cut_at calls a b (inl t) = let l = t.hears.listened in by_reading calls t.now a t.read b t.reads (ap clock_of t.hears.same)
+      (grows_from t.now a.journal t.read.journal b.journal (sym (ap journal_of t.reads.same)) (listened_at calls.receives t.now l.count (answered_with l.lost ∷ []) t.read.limit b.limit t.read.journal b.journal t.read.told b.told t.read.wire b.wire l.listens))
   cut_at calls a b (inr (inl t)) = let d = t.draws.drew.draws.draws in by_reading calls t.now a t.read b t.reads (ap clock_of t.draws.same ∙ ap clock_of t.looks.same ∙ ap clock_of t.hears.same)
       (grows_on t.now a.journal t.looked.journal b.journal (heard_at calls t.now t.came t.unheard a t.read t.heard t.looked t.reads t.hears t.looks) (record { entries = d.entries; grown = d.grown; made = entered_at (IsDrawing t.now) t.now (λ j s e h. h.moment) t.looked.journal d.strokes d.entries d.each }))
   cut_at calls a b (inr (inr (inl t))) = by_reading calls t.now a t.read b t.reads (ap clock_of t.draws.same ∙ ap clock_of t.looks.same ∙ ap clock_of t.hears.same) (drawn_at calls t.now t.came t.most t.unheard t.none_left a t.read t.heard t.looked b t.reads t.hears t.looks t.draws)
@@ -157,15 +169,19 @@ module _ {X C : Type 0} where
 
 -- A NEW NODE
 
-pub words_kept : {W X C E : Type 0} (r : Result (NodeState W X C) E) (recorded : RecorderView W) (words : W) (j : Journal) → IfOk r (λ node. node.words ≡ recorded.words) → recorded ≡ record { journal = j; words = words } → IfOk r (λ node. node.words ≡ words)
-words_kept {W} (Ok node) recorded words j h is = h ∙ ap (λ (x : RecorderView W). x.words) is
-words_kept (Err e) recorded words j h is = tt
+pub words_kept : {W X C E : Type 0} (r : Result (NodeState W X C) E) (recorded : RecorderView W) (words : W) (j : Journal) (begins : Option RecordStart) → IfOk r (λ node. node.words ≡ recorded.words) → recorded ≡ record { journal = j; words = words; begins = begins } → IfOk r (λ node. node.words ≡ words)
+words_kept {W} (Ok node) recorded words j begins h is = h ∙ ap (λ (x : RecorderView W). x.words) is
+words_kept (Err e) recorded words j begins h is = tt
 
-pub made_now : {W X C E : Type 0} (r : Result (NodeState W X C) E) (recorded : RecorderView W) (Reads : C → ℕ → C → Type 0) (before after : C) (told now : ℕ) (config : Config) (words : W) → IfOk r (λ node. node.view.journal ≡ recorded.journal) → IfOk r (λ node. node.view.clock ≡ after)
-    → recorded ≡ record { journal = record { start = record { config = config; made = now }; entries = [] }; words = words } → Reads before told after → now ≡ moment_of told → IfOk r (λ node. IsMadeNow Reads before node.view)
-made_now {W} (Ok node) recorded Reads before after told now config words h clock is reads counts = record {
+pub begins_kept : {W X C E : Type 0} (r : Result (NodeState W X C) E) (recorded : RecorderView W) (words : W) (j : Journal) (begins : Option RecordStart) → IfOk r (λ node. node.begins ≡ recorded.begins) → recorded ≡ record { journal = j; words = words; begins = begins } → IfOk r (λ node. node.begins ≡ begins)
+begins_kept {W} (Ok node) recorded words j begins h is = h ∙ ap (λ (x : RecorderView W). x.begins) is
+begins_kept (Err e) recorded words j begins h is = tt
+
+pub made_now : {W X C E : Type 0} (r : Result (NodeState W X C) E) (recorded : RecorderView W) (Reads : C → ℕ → C → Type 0) (before after : C) (told now : ℕ) (config : Config) (words : W) (begins : Option RecordStart) → IfOk r (λ node. node.view.journal ≡ recorded.journal) → IfOk r (λ node. node.view.clock ≡ after)
+    → recorded ≡ record { journal = record { start = record { config = config; made = now }; entries = [] }; words = words; begins = begins } → Reads before told after → now ≡ moment_of told → IfOk r (λ node. IsMadeNow Reads before node.view)
+made_now {W} (Ok node) recorded Reads before after told now config words begins h clock is reads counts = record {
   told = told;
   reads = subst (λ c. Reads before told c) (sym clock) reads;
   counts = ap (λ (j : Journal). j.start.made) h ∙ ap (λ (x : RecorderView W). x.journal.start.made) is ∙ counts;
 }
-made_now (Err e) recorded Reads before after told now config words h clock is reads counts = tt
+made_now (Err e) recorded Reads before after told now config words begins h clock is reads counts = tt

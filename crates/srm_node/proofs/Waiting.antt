@@ -24,6 +24,7 @@ waits_on next_word a b c h k = record {
     grown = k.words.grown ∙ ap (λ es. es ++ k.words.added) h.words.grown ∙ append_assoc a.journal.entries h.words.added k.words.added;
     words = by_more next_word a.journal.start.config a.words b.words c.words h.words.added k.words.added h.words.words
         (subst (λ (s : Config). AreByWords next_word s b.words k.words.added c.words) (ap (λ s. s.config) h.start) k.words.words);
+    begins = k.words.begins ∙ h.words.begins;
   };
 }
 
@@ -32,10 +33,11 @@ waits_heard next_word now bytes a b answer (inl (e, grows, hearing, answers)) wo
 waits_heard next_word now bytes a b answer (inr (wrong, same)) words = record { start = ap (λ (j : Journal). j.start) same; words = words }
 
 -- a pause draws none
-pub waits_paused : {W X C : Type 0} (next_word : W → ℕ × W) (calls : Calls X C) (a b : NodeState W X C) → Paused calls a.view b.view → b.words ≡ a.words → WaitsByWords next_word (recorded_in a) (recorded_in b)
-waits_paused {W} {X} {C} next_word calls a b paused words = record {
+pub waits_paused : {W X C : Type 0} (next_word : W → ℕ × W) (calls : Calls X C) (a b : NodeState W X C) → Paused calls a.view b.view → b.words ≡ a.words → b.begins ≡ a.begins → WaitsByWords next_word (recorded_in a) (recorded_in b)
+waits_paused {W} {X} {C} next_word calls a b paused words begins = record {
   start = ap (λ (j : Journal). j.start) journal;
-  words = no_words_recorded next_word (recorded_in a) (recorded_in b) (ap (λ (j : Journal). record { journal = j; words = b.words }) journal ∙ ap (λ w. record { journal = a.view.journal; words = w }) words);
+  words = no_words_recorded next_word (recorded_in a) (recorded_in b)
+      (ap (λ (j : Journal). record { journal = j; words = b.words; begins = b.begins }) journal ∙ ap (λ w. record { journal = a.view.journal; words = w; begins = b.begins }) words ∙ ap (λ r. record { journal = a.view.journal; words = a.words; begins = r }) begins);
 }
   where
     journal : b.view.journal ≡ a.view.journal

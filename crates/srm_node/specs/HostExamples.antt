@@ -1,5 +1,5 @@
 -- Workers that are started and joined, and what a host returns, at worked examples.
-use Rattle.std.specs.Prelude.{◌≡◌, ◌≢◌, ℕ, zero, suc, Bool, true, false, List, [], ◌∷◌, ◌++◌, Some, None, refl, MatchBool}
+use Rattle.std.specs.Prelude.{◌≡◌, ◌≢◌, ℕ, zero, suc, Bool, true, false, List, [], ◌∷◌, ◌++◌, map, drop, Some, None, refl, MatchBool}
 use Rattle.std.proofs.Common.{ap, sym, ◌∙◌, subst, inl}
 use Rattle.std.proofs.lemmas.Option.{same_Some}
 use Rattle.srm_names.specs.Names.{first_page}
@@ -15,7 +15,7 @@ use Rattle.srm_node.specs.declared.hosting.Hosted.{Hosted}
 use Rattle.srm_node.specs.declared.working.Worked.{Worked}
 use Rattle.srm_node.specs.declared.working.WorkEnd.TheVariants.{Closed, Broken}
 use Rattle.srm_node.specs.Working.{Took, SeesEach, EndsSo, is_stopped}
-use Rattle.srm_node.specs.Hosting.{Kinds, kinds_of, start_of, starts_of, Starts, StopsBy, Joins, WorkedAs, WorkedEach, AreEndsOfLanes, SameLines, HostFails, Hosts}
+use Rattle.srm_node.specs.Hosting.{Kinds, kinds_of, start_of, starts_of, Starts, StartsUpTo, StopsBy, Joins, WorkedAs, WorkedEach, AreEndsOfLanes, SameLines, HostFails, Hosts}
 use Rattle.srm_node.specs.TurnSample.{calls, feed, unpaused, waits_once}
 use Rattle.srm_node.specs.WholeTurnExamples.{before, after, whole}
 
@@ -110,10 +110,28 @@ ran_once lane well = inl (refl, record { runs = record { turns = (unpaused None 
 one_for_each : {P L : Type 0} (entries : L → List PageMsg) (lane : LaneId) (well : WellView) (h : Hosted P L) → h.worked.items ≡ [] → Hosts calls (counting entries) (before lane well) (one_start lane) 5 h → ⊥
 one_for_each entries lane well h none x = let workers : WorkedEach (counting entries) (one_start lane) [] = subst (WorkedEach (counting entries) (one_start lane)) none x.workers in workers
 
-nobody : {L : Type 0} (entries : L → List PageMsg) (started rest : List (TapView × ℕ)) (t : TapView × ℕ) → started ++ rest ≡ t ∷ [] → rest ≡ [] → WorkedEach (counting entries) started [] → ⊥
-nobody entries [] rest t split none each = cc
-nobody entries (s ∷ started) rest t split none each = each
+nobody : {L : Type 0} (entries : L → List PageMsg) (started others : List (TapView × ℕ)) (t : TapView × ℕ) → started ++ others ≡ t ∷ [] → others ≡ [] → WorkedEach (counting entries) started [] → ⊥
+nobody entries [] others t split none each = cc
+nobody entries (s ∷ started) others t split none each = each
 
 -- with all workers started each of them is joined
 all_joined : {P L : Type 0} (entries : L → List PageMsg) (lane : LaneId) (well : WellView) (h : Hosted P L) → h.worked.items ≡ [] → HostFails calls (counting entries) true (before lane well) (one_start lane) 5 Memory h → ⊥
-all_joined entries lane well h none x = nobody entries x.started x.rest (tap 0 [] lane, 0) x.split x.whole (subst (WorkedEach (counting entries) x.started) none x.workers)
+all_joined entries lane well h none x = nobody entries x.started x.up_to.others (tap 0 [] lane, 0) x.up_to.split x.up_to.whole (subst (WorkedEach (counting entries) x.started) none x.stops.workers)
+
+abbrev two_starts : LaneId → LaneId → List (TapView × ℕ)
+two_starts one other = starts_of (tap 0 [] one ∷ tap 1 [] other ∷ []) (0 ∷ 7 ∷ [])
+
+-- of two workers the second one couldn't be started: no tap is behind its
+up_to_the_second : (one other : LaneId) → StartsUpTo false (two_starts one other) ((tap 0 [] one, 0) ∷ []) []
+up_to_the_second one other = record { others = (tap 1 [] other, 7) ∷ []; split = refl; behind = refl; whole = tt }
+
+no_tap_behind : (others : List (TapView × ℕ)) (one other : LaneId) → others ≡ two_starts one other → map (λ (s : TapView × ℕ). s.0) (drop 1 others) ≡ [] → ⊥
+no_tap_behind others one other is behind = let left : tap 1 [] other ∷ [] ≡ [] = sym (ap (λ xs. map (λ (s : TapView × ℕ). s.0) (drop 1 xs)) is) ∙ behind in cc
+
+unjoined : {L : Type 0} (entries : L → List PageMsg) (one other : LaneId) (started : List (TapView × ℕ)) → WorkedEach (counting entries) started [] → StartsUpTo false (two_starts one other) started [] → ⊥
+unjoined entries one other [] each up_to = no_tap_behind up_to.others one other up_to.split up_to.behind
+unjoined entries one other (s ∷ started) each up_to = each
+
+-- Of two workers none is joined: then the first one couldn't be started, and the tap of the second is returned.
+none_dropped : {P L : Type 0} (entries : L → List PageMsg) (one other : LaneId) (well : WellView) (h : Hosted P L) → h.worked.items ≡ [] → h.left.items ≡ [] → HostFails calls (counting entries) false (before one well) (two_starts one other) 5 Memory h → ⊥
+none_dropped entries one other well h none no_tap x = unjoined entries one other x.started (subst (WorkedEach (counting entries) x.started) none x.stops.workers) (subst (λ ls. StartsUpTo false (two_starts one other) x.started ls) no_tap x.up_to)

@@ -1,5 +1,5 @@
 -- A node and its page workers in threads.
-use Rattle.std.specs.Prelude.{◌≡◌, ◌⊎◌, ℕ, Bool, true, false, List, [], ◌∷◌, ◌++◌, map, length, slice_get, Option, Some, None, Err}
+use Rattle.std.specs.Prelude.{◌≡◌, ◌⊎◌, ℕ, Bool, true, false, List, [], ◌∷◌, ◌++◌, map, drop, length, slice_get, Option, Some, None, Err}
 use Rattle.std.specs.Bool.{OnTrue}
 use Rattle.std.specs.List.{zip}
 use Rattle.srm_names.specs.declared.page_msg.PageMsg.{PageMsg}
@@ -57,28 +57,32 @@ pub record Joins {L S : Type 0} (kinds : Kinds L S) (all : List (TapView × S)) 
   pub split : all ≡ joined ++ map start_of left
   pub each : WorkedEach kinds joined worked
 
--- workers were started with the first of these taps and sinks
-pub record StartsSome {L S : Type 0} (starts : List (TapView × S)) (workers : List (Worker L S)) : Type 0 where
-  pub rest : List (TapView × S)
-  pub split : map start_of workers ++ rest ≡ starts
+-- Workers were started with the first of these taps and sinks, and with the others not: with all, and there are no others; or the first of the others got no
+-- worker, and the taps behind it are left as they were.
+pub record StartsUpTo {S : Type 0} (all : Bool) (starts started : List (TapView × S)) (left : List TapView) : Type 0 where
+  pub others : List (TapView × S)
+  pub split : started ++ others ≡ starts
+  pub behind : map (λ (s : TapView × S). s.0) (drop 1 others) ≡ left
+  pub whole : OnTrue all (others ≡ [])
 
 -- with all workers started the node ran into this fault; or it was not turned, since a worker couldn't be started
 abbrev pub StopsBy : {X C : Type 0} → Calls X C → Bool → NodeFault → ℕ → NodeView X C → NodeView X C → Type 0
 StopsBy calls all fault turns old new = ((all ≡ true) × RunEnds calls (Err fault) turns old new) ⊎ ((all ≡ false) × (fault ≡ Memory) × (new ≡ old))
 
--- After a fault: the feeds were dropped. The node's journal is returned, and the tap and list of each worker that was started, in the order of the taps: of all, or
--- of fewer.
-pub record HostFails {P L S X C : Type 0} (calls : Calls X C) (kinds : Kinds L S) (all : Bool) (node : NodeView X C) (starts : List (TapView × S)) (turns : ℕ) (fault : NodeFault) (h : Hosted P L) : Type 0 where
+-- After a fault: the feeds were dropped. The node's journal is returned, and the tap and list of each worker that was started.
+pub record HostStops {P L S X C : Type 0} (calls : Calls X C) (kinds : Kinds L S) (all : Bool) (node : NodeView X C) (started : List (TapView × S)) (turns : ℕ) (fault : NodeFault) (h : Hosted P L) : Type 0 where
   pub last : NodeView X C
   pub runs : StopsBy calls all fault turns node last
   pub keeps : NodeKeepsLists last
-  pub journal : h.journal ≡ last.journal
+  pub journal : h.history.journal ≡ last.journal
   pub feeds : h.feeds.items ≡ []
-  pub started : List (TapView × S)
-  pub rest : List (TapView × S)
-  pub split : started ++ rest ≡ starts
-  pub whole : OnTrue all (rest ≡ [])
   pub workers : WorkedEach kinds started h.worked.items
+
+-- The same, and the workers were started in the order of the taps: all of them; or all before one that couldn't be, and the taps behind it are returned.
+pub record HostFails {P L S X C : Type 0} (calls : Calls X C) (kinds : Kinds L S) (all : Bool) (node : NodeView X C) (starts : List (TapView × S)) (turns : ℕ) (fault : NodeFault) (h : Hosted P L) : Type 0 where
+  pub started : List (TapView × S)
+  pub up_to : StartsUpTo all starts started h.left.items
+  pub stops : HostStops calls kinds all node started turns fault h
 
 -- the feed and the tap of a slot are the ends of one lane
 abbrev pub AreEndsOfLanes : List FeedView → List TapView → Type 0
@@ -89,7 +93,7 @@ pub record Hosts {P L S X C : Type 0} (calls : Calls X C) (kinds : Kinds L S) (n
   pub last : NodeView X C
   pub runs : RunsToEnd calls turns node last
   pub keeps : NodeKeepsLists last
-  pub journal : h.journal ≡ last.journal
+  pub journal : h.history.journal ≡ last.journal
   pub feeds : h.feeds.items ≡ last.feeds
   pub slots : length last.feeds ≡ length node.feeds
   pub lanes : SameFeeds node.feeds last.feeds
@@ -99,8 +103,11 @@ pub record Hosts {P L S X C : Type 0} (calls : Calls X C) (kinds : Kinds L S) (n
 abbrev pub HostsWith : {P L S X C : Type 0} → Calls X C → Kinds L S → NodeView X C → List (TapView × S) → ℕ → NodeEnds → Hosted P L → Type 0
 HostsWith calls kinds node starts turns ends h = (host : Hosts calls kinds node starts turns h) × (ends.well ≡ host.last.well) × (ends.commands ≡ host.last.control)
 
+abbrev pub HostStopsWith : {P L S X C : Type 0} → Calls X C → Kinds L S → Bool → NodeView X C → List (TapView × S) → ℕ → NodeFault → NodeEnds → Hosted P L → Type 0
+HostStopsWith calls kinds all node started turns fault ends h = (stops : HostStops calls kinds all node started turns fault h) × (ends.well ≡ stops.last.well) × (ends.commands ≡ stops.last.control)
+
 abbrev pub HostFailsWith : {P L S X C : Type 0} → Calls X C → Kinds L S → Bool → NodeView X C → List (TapView × S) → ℕ → NodeFault → NodeEnds → Hosted P L → Type 0
-HostFailsWith calls kinds all node starts turns fault ends h = (host : HostFails calls kinds all node starts turns fault h) × (ends.well ≡ host.last.well) × (ends.commands ≡ host.last.control)
+HostFailsWith calls kinds all node starts turns fault ends h = (host : HostFails calls kinds all node starts turns fault h) × (ends.well ≡ host.stops.last.well) × (ends.commands ≡ host.stops.last.control)
 
 -- what a stroke queue received, how often it found none and what it was told of its producers may change, and no more
 abbrev pub SameWell : WellView → WellView → Type 0

@@ -1,6 +1,7 @@
 pub mod Calls
 pub mod Carrying
 pub mod Counting
+pub mod Limits
 pub mod Parts
 pub mod Showing
 pub mod Nodes
@@ -8,6 +9,7 @@ pub mod Waits
 pub mod Moments
 pub mod Pauses
 pub mod Turns
+pub mod LimitExamples
 pub mod TurnExamples
 pub mod PauseExamples
 pub mod ShowingExamples

@@ -1,5 +1,5 @@
 -- What lanes carry, what is counted and how runs, workers and hosts end, at worked examples.
-use Rattle.std.specs.Prelude.{◌≡◌, ℕ, suc, ◌+◌, ◌==◌, Bool, true, false, List, [], ◌∷◌, Ok, Err, Some, None, replicate, refl}
+use Rattle.std.specs.Prelude.{◌≡◌, ℕ, suc, ◌+◌, ◌==◌, ◌≤◌, Bool, true, false, List, [], ◌∷◌, Ok, Err, Some, None, replicate, refl}
 use Rattle.std.proofs.Common.{arith, inl, inr, ap, sym}
 use Rattle.srm_names.specs.Names.{first_page, stream_on}
 use Rattle.srm_names.specs.declared.page_msg.PageMsg.{PageMsg}
@@ -104,7 +104,11 @@ no_turn_is_spent old new = refl
 
 -- a pause in which two calls of the wire failed
 paused : (n : Node) → Paused calls n (record n { failures = n.failures + 2; wire = suc n.wire; clock = suc n.clock })
-paused n = record { told = 1; reads = (refl, refl); micros = 0; pauses = refl; failures = omega arith; same = refl }
+paused n = record { told = 1; reads = (refl, refl); micros = 0; short = omega arith; pauses = refl; failures = omega arith; same = refl }
+
+-- none lasts longer than 10 ms
+lasts_10_ms : (a b : Node) (p : Paused calls a b) → p.micros ≤ 10000
+lasts_10_ms a b p = p.short
 
 -- none takes a stroke in hand
 takes_no_stroke : (n : Node) (s : Stroke) → Paused calls n (record n { hand = Some s }) → n.hand ≡ Some s

@@ -9,18 +9,22 @@ use Rattle.srm_control.specs.Ends.{CommandsView}
 use Rattle.srm_entries.specs.Configs.{Config}
 use Rattle.srm_entries.specs.Entries.{state, is_gone}
 use Rattle.srm_world.specs.Traces.{Journal}
+use Rattle.srm_world.specs.RecordStarts.{RecordStart}
 use Rattle.srm_world.specs.WaitWords.{RecorderView}
 use Rattle.srm_node.specs.declared.limits.TheConstants.{BUFFER_BYTES}
 use Rattle.srm_wire.specs.Wires.{Told}
 use Rattle.srm_node.specs.Carrying.{KeepsLists}
+use Rattle.srm_node.specs.declared.missing_limit.MissingLimit.{MissingLimit}
+use Rattle.srm_node.specs.Limits.{limited_to}
 
 -- the moment that a reading counts as: one past the greatest counts as that
 abbrev pub moment_of : ℕ → ℕ
 moment_of told = min told LATEST_MOMENT
 
--- the journal, the feeds by slot, the stroke queue, the stroke in hand, when it is to leave if it was asked to, its end of a control if it has one,
--- how many calls of the wire failed, what the wire told if it tells, and the wire and the clock as they stand
+-- how much may be missing and what was dropped for it, the journal, the feeds by slot, the stroke queue, the stroke in hand, when it is to leave if it was asked to,
+-- its end of a control if it has one, how many calls of the wire failed, what the wire told if it tells, and the wire and the clock as they stand
 pub record NodeView (X C : Type 0) : Type 0 where
+  pub limit : MissingLimit
   pub journal : Journal
   pub feeds : List FeedView
   pub well : WellView
@@ -32,14 +36,15 @@ pub record NodeView (X C : Type 0) : Type 0 where
   pub wire : X
   pub clock : C
 
--- what contracts see of a node: this, and its generator as it stands
+-- what contracts see of a node: this, its generator as it stands, and how the record begins that its history is written to, if it is written to one
 pub record NodeState (W X C : Type 0) : Type 0 where
   pub view : NodeView X C
   pub words : W
+  pub begins : Option RecordStart
 
 -- what they see of the recorder in it
 abbrev pub recorded_in : {W X C : Type 0} → NodeState W X C → RecorderView W
-recorded_in n = record { journal = n.view.journal; words = n.words }
+recorded_in n = record { journal = n.view.journal; words = n.words; begins = n.begins }
 
 -- what always holds of a node
 abbrev pub NodeKeepsLists : {X C : Type 0} → NodeView X C → Type 0
@@ -75,10 +80,10 @@ pub record IsNewJournal (config : Config) (j : Journal) : Type 0 where
   pub made : ℕ
   pub is : j ≡ record { start = record { config = config; made = made }; entries = [] }
 
--- a node with these settings that did nothing yet, over this wire
+-- a node with these settings that did nothing yet, over this wire, without a limit to what may be missing
 pub record IsNewNode {X C : Type 0} (config : Config) (feeds : List FeedView) (well : WellView) (failures : ℕ) (told : Option Told) (wire : X) (n : NodeView X C) : Type 0 where
   pub made : ℕ
-  pub is : n ≡ record { journal = record { start = record { config = config; made = made }; entries = [] }; feeds = feeds; well = well; hand = None; asked = None; control = None; failures = failures; told = told; wire = wire; clock = n.clock }
+  pub is : n ≡ record { limit = limited_to None; journal = record { start = record { config = config; made = made }; entries = [] }; feeds = feeds; well = well; hand = None; asked = None; control = None; failures = failures; told = told; wire = wire; clock = n.clock }
 
 -- the node was made at the moment of one reading of this clock
 pub record IsMadeNow {X C : Type 0} (Reads : C → ℕ → C → Type 0) (clock : C) (n : NodeView X C) : Type 0 where

@@ -15,21 +15,24 @@ use Rattle.srm_outbox.specs.declared.out.Out.{Out}
 use Rattle.srm_outbox.specs.Outs.{AreOutsOf}
 use Rattle.srm_world.specs.Traces.{Journal}
 use Rattle.srm_world.specs.Claims.{IsLawfulJournal}
-use Rattle.srm_world.specs.Recording.{with_entry, with_entries, IsAt, EntersEach, HearsEach}
+use Rattle.srm_world.specs.Recording.{with_entry, with_entries, IsAt, EntersEach}
 use Rattle.srm_node.specs.declared.limits.TheConstants.{BUFFER_BYTES, DATAGRAMS_A_TURN, STROKES_A_TURN, STROKES_AT_LEAST}
 use Rattle.srm_wire.specs.Wires.{Told, TellsMore, ReceivesEach, all_told, answered_with, none_there, it_failed}
 use Rattle.srm_node.specs.Carrying.{Carries, CarriesEach, drawing}
+use Rattle.srm_node.specs.declared.missing_limit.MissingLimit.{MissingLimit}
+use Rattle.srm_node.specs.Limits.{Outcome, BecomesEach, entries_of, counting_each}
 
 -- LISTENING
 
--- So many datagrams came, and each has its entry; and then receive answered this, if anything. Each receive was one of the wire, and a wire that tells
--- has told of them.
-pub record Listens {X : Type 0} (Receives : X → ℕ → List (Option (List ℕ)) → X → Type 0) (now count : ℕ) (last : List (List (Option (List ℕ)))) (old new : Journal) (was is : Option Told) (before after : X) : Type 0 where
+-- So many datagrams came. Each has its entry, unless it was dropped for what may be missing, which is counted. And then receive answered this, if anything. Each
+-- receive was one of the wire, and a wire that tells has told of them.
+pub record Listens {X : Type 0} (Receives : X → ℕ → List (Option (List ℕ)) → X → Type 0) (now count : ℕ) (last : List (List (Option (List ℕ)))) (limit kept : MissingLimit) (old new : Journal) (was is : Option Told) (before after : X) : Type 0 where
   pub came : List (List ℕ)
-  pub entries : List Entry
+  pub outcomes : List Outcome
   pub counted : length came ≡ count
-  pub grown : new ≡ with_entries old entries
-  pub each : HearsEach now old came entries
+  pub grown : new ≡ with_entries old (entries_of outcomes)
+  pub each : BecomesEach now limit.most old came outcomes
+  pub dropped : kept ≡ counting_each outcomes limit
   pub told : TellsMore (map (λ b. Some b) came ++ all_told last) [] was is
   pub receives : ReceivesEach Receives BUFFER_BYTES (map answered_with came ++ last) before after
 
@@ -42,18 +45,18 @@ abbrev pub HearingEnds : Bool → ℕ → List (List (Option (List ℕ))) → Ty
 HearingEnds true count last = (count < DATAGRAMS_A_TURN) × (last ≡ it_failed ∷ [])
 HearingEnds false count last = HearingIsWhole count last
 
--- what came was heard, so many datagrams, and all of it unless a call failed
-pub record Listened {X : Type 0} (Receives : X → ℕ → List (Option (List ℕ)) → X → Type 0) (now count : ℕ) (failed : Bool) (old new : Journal) (was is : Option Told) (before after : X) : Type 0 where
+-- what came was heard or dropped, so many datagrams, and all of it unless a call failed
+pub record Listened {X : Type 0} (Receives : X → ℕ → List (Option (List ℕ)) → X → Type 0) (now count : ℕ) (failed : Bool) (limit kept : MissingLimit) (old new : Journal) (was is : Option Told) (before after : X) : Type 0 where
   pub last : List (List (Option (List ℕ)))
-  pub listens : Listens Receives now count last old new was is before after
+  pub listens : Listens Receives now count last limit kept old new was is before after
   pub ends : HearingEnds failed count last
 
--- Memory ran out: what came was heard, but for the last of it, which is lost.
-pub record ListenedCut {X : Type 0} (Receives : X → ℕ → List (Option (List ℕ)) → X → Type 0) (now : ℕ) (old new : Journal) (was is : Option Told) (before after : X) : Type 0 where
+-- Memory ran out: what came was heard or dropped, but for the last of it, which is lost.
+pub record ListenedCut {X : Type 0} (Receives : X → ℕ → List (Option (List ℕ)) → X → Type 0) (now : ℕ) (limit kept : MissingLimit) (old new : Journal) (was is : Option Told) (before after : X) : Type 0 where
   pub count : ℕ
   pub lost : List ℕ
   pub few : count < DATAGRAMS_A_TURN
-  pub listens : Listens Receives now count (answered_with lost ∷ []) old new was is before after
+  pub listens : Listens Receives now count (answered_with lost ∷ []) limit kept old new was is before after
 
 -- DRAWING
 

@@ -11,9 +11,13 @@ is_full turn = (turn.heard == DATAGRAMS_A_TURN) || (turn.drawn == turn.most) || 
 abbrev pub is_idle : Turn → Bool
 is_idle turn = (turn.heard == 0) && (turn.drawn == 0) && not turn.obeyed
 
+-- the longest pause of all: 10 ms
+abbrev pub LONGEST_PAUSE : ℕ
+LONGEST_PAUSE = 10000
+
 -- A pause lasts 10 ms at most, and 1 ms after a turn that gave a message.
 abbrev pub longest_after : Turn → ℕ
-longest_after turn = if turn.gave then 1000 else 10000
+longest_after turn = if turn.gave then 1000 else LONGEST_PAUSE
 
 -- After an idle turn it lasts 1 ms at least.
 abbrev pub shortest_after : Turn → ℕ
@@ -22,7 +26,7 @@ shortest_after turn = if is_idle turn then 1000 else 0
 -- how long until something is due; the longest pause, if nothing is
 abbrev pub time_until : Option ℕ → ℕ → ℕ
 time_until (Some due) now = due - now
-time_until None now = 10000
+time_until None now = LONGEST_PAUSE
 
 -- A node pauses until something is due, within these bounds, and not at all where there may be more.
 abbrev pub pause_after : Turn → Option ℕ → ℕ → ℕ

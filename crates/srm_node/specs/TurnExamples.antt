@@ -101,13 +101,13 @@ abbrev one_missing : (wait : ℕ) → Entry
 one_missing wait = hears 0 7 (Data (drawop_of 1 2 (7 ∷ []))) (ask_arm 1 0 wait ∷ [])
 
 abbrev before_it : RecorderView (List ℕ)
-before_it = record { journal = journal []; words = 5 ∷ 9 ∷ [] }
+before_it = record { journal = journal []; words = 5 ∷ 9 ∷ []; begins = None }
 
 abbrev behind_it : (wait : ℕ) → List ℕ → RecorderView (List ℕ)
-behind_it wait words = record { journal = journal (first_drawn ∷ one_missing wait ∷ []); words = words }
+behind_it wait words = record { journal = journal (first_drawn ∷ one_missing wait ∷ []); words = words; begins = None }
 
 waits_by_one_word : WaitsByWords next_listed before_it (behind_it 200005 (9 ∷ []))
-waits_by_one_word = record { start = refl; words = record { added = first_drawn ∷ one_missing 200005 ∷ []; grown = refl; words = (refl, refl) } }
+waits_by_one_word = record { start = refl; words = record { added = first_drawn ∷ one_missing 200005 ∷ []; grown = refl; words = (refl, refl); begins = refl } }
 
 -- THE CLOCK
 

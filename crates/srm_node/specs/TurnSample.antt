@@ -20,6 +20,7 @@ use Rattle.srm_world.specs.Claims.{IsLawfulJournal}
 use Rattle.srm_node.specs.Carrying.{CarriesEach}
 use Rattle.srm_node.specs.Parts.{GivesUpTo, SameFeed, is_give, is_served}
 use Rattle.srm_node.specs.Showing.{ShowsAsked}
+use Rattle.srm_node.specs.Limits.{limited_to}
 use Rattle.srm_node.specs.Nodes.{NodeView}
 use Rattle.srm_node.specs.Calls.{Calls}
 use Rattle.srm_node.specs.Turns.{ReadsNow, HearsNow, LooksNow, ShowsNow, Paused}
@@ -64,14 +65,14 @@ calls = record {
 
 -- member 0 of two over a wire that tells, which did no turn yet, waited once, and is to leave at this moment, if at any
 abbrev pub unturned : Option ℕ → LaneId → WellView → Node
-unturned asked lane well = record { journal = journal []; feeds = eight [] [] lane; well = well; hand = None; asked = asked; control = None; failures = 0; told = Some (record { came = []; went = [] }); wire = 1; clock = 1 }
+unturned asked lane well = record { limit = limited_to None; journal = journal []; feeds = eight [] [] lane; well = well; hand = None; asked = asked; control = None; failures = 0; told = Some (record { came = []; went = [] }); wire = 1; clock = 1 }
 
 -- before it waited, by one call of its wire and one reading of its clock
 abbrev pub unpaused : Option ℕ → LaneId → WellView → Node
 unpaused asked lane well = record (unturned asked lane well) { wire = 0; clock = 0 }
 
 pub waits_once : (asked : Option ℕ) (lane : LaneId) (well : WellView) → Paused calls (unpaused asked lane well) (unturned asked lane well)
-waits_once asked lane well = record { told = 1; reads = (refl, refl); micros = 0; pauses = refl; failures = omega arith; same = refl }
+waits_once asked lane well = record { told = 1; reads = (refl, refl); micros = 0; short = omega arith; pauses = refl; failures = omega arith; same = refl }
 
 -- the clock was read once more
 abbrev pub read_once : Option ℕ → LaneId → WellView → Node
@@ -88,7 +89,7 @@ pub hears_nothing : (asked : Option ℕ) (lane : LaneId) (well : WellView) → H
 hears_nothing asked lane well = record {
   listened = record {
     last = (None ∷ []) ∷ [];
-    listens = record { came = []; entries = []; counted = refl; grown = refl; each = tt; told = record { told = refl }; receives = (2, (refl, refl), refl) };
+    listens = record { came = []; outcomes = []; counted = refl; grown = refl; each = tt; dropped = refl; told = record { told = refl }; receives = (2, (refl, refl), refl) };
     ends = inr (omega arith, refl);
   };
   failures = (omega arith, tt);

@@ -11,6 +11,7 @@ use Rattle.srm_node.specs.Calls.{Calls}
 use Rattle.srm_node.specs.Parts.{Listened, ListenedCut, strokes_after, DrewStrokes, DrewStrokesCut, is_to_leave, still_asked, Leaves, Ticks, GivesUpTo, GaveSome}
 use Rattle.srm_node.specs.Showing.{ShowsAsked, ShowsAskedCut}
 use Rattle.srm_node.specs.Nodes.{NodeView, has_ended, moment_of}
+use Rattle.srm_node.specs.Pauses.{LONGEST_PAUSE}
 
 -- The clock was read once.
 pub record ReadsNow {X C : Type 0} (Reads : C → ℕ → C → Type 0) (now : ℕ) (old new : NodeView X C) : Type 0 where
@@ -19,11 +20,11 @@ pub record ReadsNow {X C : Type 0} (Reads : C → ℕ → C → Type 0) (now : �
   pub counts : now ≡ moment_of told
   pub same : new ≡ record old { clock = new.clock }
 
--- What came was heard, so many datagrams, all of it unless a call failed, and with the call that failed the hearing ends.
+-- What came was heard or dropped, so many datagrams, all of it unless a call failed, and with the call that failed the hearing ends.
 pub record HearsNow {X C : Type 0} (Receives : X → ℕ → List (Option (List ℕ)) → X → Type 0) (now count : ℕ) (unheard : Bool) (old new : NodeView X C) : Type 0 where
-  pub listened : Listened Receives now count unheard old.journal new.journal old.told new.told old.wire new.wire
+  pub listened : Listened Receives now count unheard old.limit new.limit old.journal new.journal old.told new.told old.wire new.wire
   pub failures : CountsIf unheard old.failures new.failures
-  pub same : new ≡ record old { journal = new.journal; failures = new.failures; told = new.told; wire = new.wire }
+  pub same : new ≡ record old { limit = new.limit; journal = new.journal; failures = new.failures; told = new.told; wire = new.wire }
 
 -- The producers were looked at, and all said that they are done, or not.
 pub record LooksNow {X C : Type 0} (old new : NodeView X C) : Type 0 where
@@ -105,9 +106,9 @@ pub record TurnedDeaf {X C : Type 0} (calls : Calls X C) (old new : NodeView X C
 
 -- Memory ran out while the node heard: what came last is lost.
 pub record HearsCut {X C : Type 0} (Receives : X → ℕ → List (Option (List ℕ)) → X → Type 0) (now : ℕ) (old new : NodeView X C) : Type 0 where
-  pub listened : ListenedCut Receives now old.journal new.journal old.told new.told old.wire new.wire
+  pub listened : ListenedCut Receives now old.limit new.limit old.journal new.journal old.told new.told old.wire new.wire
   pub failures : old.failures ≤ new.failures
-  pub same : new ≡ record old { journal = new.journal; failures = new.failures; told = new.told; wire = new.wire }
+  pub same : new ≡ record old { limit = new.limit; journal = new.journal; failures = new.failures; told = new.told; wire = new.wire }
 
 -- Memory ran out while it drew: the stroke is in hand.
 pub record DrawsCut {X C : Type 0} (now most : ℕ) (old new : NodeView X C) : Type 0 where
@@ -194,11 +195,12 @@ TurnEnds calls (Err Wire) old new = TurnedDeaf calls old new
 TurnEnds calls (Err Memory) old new = IsCut calls old new
 TurnEnds calls (Err Turns) old new = ⊥
 
--- the clock was read once, and the wire waited once, which may have raised its count of failures
+-- the clock was read once, and the wire was to wait once, 10 ms at most, which may have raised its count of failures
 pub record Paused {X C : Type 0} (calls : Calls X C) (old new : NodeView X C) : Type 0 where
   pub told : ℕ
   pub reads : calls.reads old.clock told new.clock
   pub micros : ℕ
+  pub short : micros ≤ LONGEST_PAUSE
   pub pauses : calls.pauses old.wire micros new.wire
   pub failures : old.failures ≤ new.failures
   pub same : new ≡ record old { failures = new.failures; wire = new.wire; clock = new.clock }

@@ -1,12 +1,12 @@
 //! A node and its page workers, in threads.
 
-ghost use Rattle.std.specs.Prelude.{◌≡◌, ◌+◌, ◌<◌, ◌≤◌, Bool, true, [], ◌∷◌, ◌++◌, map, length, vec_len, vec_capacity, IfOk, IfSome, MatchResult};
+ghost use Rattle.std.specs.Prelude.{◌≡◌, ◌+◌, ◌<◌, ◌≤◌, Bool, true, [], ◌∷◌, ◌++◌, map, drop, length, vec_len, vec_capacity, IfOk, IfSome, MatchResult};
 ghost use Rattle.std.specs.Bool.{OnTrue, OnFalse};
 ghost use Rattle.srm_names.specs.declared.limits.TheConstants.{PAGES};
 ghost use Rattle.srm_node.specs.Calls.{calls_of};
 ghost use Rattle.srm_node.specs.Nodes.{NodeKeepsLists};
 ghost use Rattle.srm_node.specs.Turns.{RunsToEnd};
-ghost use Rattle.srm_node.specs.Hosting.{start_of, starts_of, kinds_of, Starts, StartsSome, StopsBy, WorkedAs, WorkedEach, SameWell, SameLines, Hosts, HostsWith, HostFails, HostFailsWith, AreEndsOfLanes};
+ghost use Rattle.srm_node.specs.Hosting.{start_of, starts_of, kinds_of, Starts, StartsUpTo, StopsBy, WorkedAs, WorkedEach, SameWell, SameLines, Hosts, HostsWith, HostStopsWith, HostFails, HostFailsWith, AreEndsOfLanes};
 
 use crate::fault::NodeFault;
 use crate::node::Node;
@@ -19,7 +19,7 @@ use srm_pages::ends::Well;
 use srm_pages::{Feed, Tap};
 use srm_timers::Words;
 use srm_wire::{Clock, Wire};
-use srm_world::{Journal, Past};
+use srm_world::{History, Past};
 use std::alloc::{AllocError, Global};
 use std::collections::VecDeque;
 use std::snapshot::Snapshot;
@@ -48,11 +48,13 @@ pub struct Worker<L: Past<PageMsg> + Drop, S: PageSink> {
 #[derive(Drop)]
 pub struct Hosted<P: Past<Entry> + Drop = Vec<Entry>, L: Past<PageMsg> + Drop = Vec<PageMsg>> {
     /// What the member did, as it was kept.
-    pub journal: Journal<P>,
+    pub history: History<P>,
     /// Empty after a fault: the feeds were dropped, so that the workers end.
     pub feeds: Vec<Feed>,
     /// What became of each worker that was started, by page slot.
     pub worked: Vec<Worked<L>>,
+    /// The taps that nobody was started with, by page slot, but for that of the first worker that couldn't be started. Empty if all were started.
+    pub left: Vec<Tap>,
     /// Whether the node ran to its end, or why it stopped.
     pub end: Result<(), NodeFault>,
 }
@@ -64,7 +66,7 @@ pub struct Hosted<P: Past<Entry> + Drop = Vec<Entry>, L: Past<PageMsg> + Drop = 
 /// only if the rest of its page feed, the close too, has room in the lane's 64 messages, and else with `Turns`.
 ///
 /// After a fault of the node the feeds are dropped, so that the workers end. If a worker's thread can't be started, whatever the cause, the end is `Memory`, the
-/// node isn't turned, and the workers that were started are returned. Fails only if out of memory before any worker is started.
+/// node isn't turned, and what the workers before it did is returned, with the taps behind it. Fails only if out of memory before any worker is started.
 pub fn host<
     R: Threads + Wait + Copy + Send + 'static,
     W: Words + Drop,
@@ -86,6 +88,8 @@ pub fn host<
     ensures hosts { IfOk result (λ h. MatchResult h.end (λ _. Hosts (calls_of C.reads X.receives X.sends X.pauses) (kinds_of L.appended L.is_refused S.sees) node.view (starts_of taps.items sinks.items) turns h)
         (λ fault. (all : Bool) × HostFails (calls_of C.reads X.receives X.sends X.pauses) (kinds_of L.appended L.is_refused S.sees) all node.view (starts_of taps.items sinks.items) turns fault h)) }
     ensures lanes { IfOk result (λ h. IfOk h.end (λ _. AreEndsOfLanes node.view.feeds taps.items → AreEndsOfLanes h.feeds.items (map (λ w. w.tap) h.worked.items))) }
+    ensures left { IfOk result (λ h. IfOk h.end (λ _. h.left.items ≡ [])) }
+    ensures begins { IfOk result (λ h. h.history.begins ≡ node.begins) }
 {
     let (hosted, _) = host_with_ends(rt, alloc, node, taps, sinks, turns)?;
     Ok(hosted)
@@ -125,12 +129,14 @@ pub fn host_with_ends<
     ensures hosts { IfOk result (λ r. MatchResult r.0.end (λ _. HostsWith (calls_of C.reads X.receives X.sends X.pauses) (kinds_of L.appended L.is_refused S.sees) node.view (starts_of taps.items sinks.items) turns r.1 r.0)
         (λ fault. (all : Bool) × HostFailsWith (calls_of C.reads X.receives X.sends X.pauses) (kinds_of L.appended L.is_refused S.sees) all node.view (starts_of taps.items sinks.items) turns fault r.1 r.0)) }
     ensures lanes { IfOk result (λ r. IfOk r.0.end (λ _. AreEndsOfLanes node.view.feeds taps.items → AreEndsOfLanes r.0.feeds.items (map (λ w. w.tap) r.0.worked.items))) }
+    ensures left { IfOk result (λ r. IfOk r.0.end (λ _. r.0.left.items ≡ [])) }
     ensures well { IfOk result (λ r. IfOk r.0.end (λ _. SameWell node.view.well r.1.well)) }
     ensures control { IfOk result (λ r. IfOk r.0.end (λ _. SameLines node.view.control r.1.commands)) }
+    ensures begins { IfOk result (λ r. r.0.history.begins ≡ node.begins) }
 {
     let (mut workers, mut worked) = places(alloc)?;
-    let all = begin(rt, alloc, taps, sinks, &mut workers, &mut worked);
-    Ok(go(rt, alloc, node, all, turns, workers, worked))
+    let (all, left) = begin(rt, alloc, taps, sinks, &mut workers, &mut worked);
+    Ok(go(rt, alloc, node, all, turns, workers, worked, left))
 }
 
 // Room for the workers, and for what they return.
@@ -163,28 +169,33 @@ fn go<
     turns: u64,
     workers: VecDeque<Worker<L, S>>,
     worked: Vec<Worked<L>>,
+    left: Vec<Tap>,
 ) -> (Hosted<P, L>, NodeEnds)
     requires room { vec_len worked + length workers.items ≤ vec_capacity worked }
     requires none { worked.items ≡ [] }
     ensures ends { MatchResult result.0.end (λ _. (all ≡ true) × HostsWith (calls_of C.reads X.receives X.sends X.pauses) (kinds_of L.appended L.is_refused S.sees) node.view (map start_of workers.items) turns result.1 result.0)
-        (λ fault. HostFailsWith (calls_of C.reads X.receives X.sends X.pauses) (kinds_of L.appended L.is_refused S.sees) all node.view (map start_of workers.items) turns fault result.1 result.0) }
+        (λ fault. HostStopsWith (calls_of C.reads X.receives X.sends X.pauses) (kinds_of L.appended L.is_refused S.sees) all node.view (map start_of workers.items) turns fault result.1 result.0) }
     ensures each { WorkedEach (kinds_of L.appended L.is_refused S.sees) (map start_of workers.items) result.0.worked.items }
+    ensures left { result.0.left.items ≡ left.items }
+    ensures begins { result.0.history.begins ≡ node.begins }
 {
     let mut node = node;
     let end = run_if(rt, &mut node, all, turns);
-    let (journal, feeds, well, commands) = node.into_parts();
+    let (history, feeds, well, commands) = node.into_parts();
     let feeds = kept(alloc, feeds, end.is_ok());
     let worked = join_all(rt, workers, worked);
     let hosted = Hosted {
-        journal,
+        history,
         feeds,
         worked,
+        left,
         end,
     };
     (hosted, NodeEnds { well, commands })
 }
 
-// Starts the workers. Whether all were started.
+#[tactic(auto, using(crate::proofs::Hosts::starts_the_same))]
+// Starts the workers. Whether all were started, and the taps behind that of the first that wasn't.
 fn begin<
     R: Threads + Wait + Copy + Send + 'static,
     S: PageSink + Send + Drop + 'static,
@@ -196,18 +207,18 @@ fn begin<
     sinks: Vec<S>,
     workers: &mut VecDeque<Worker<L, S>>,
     worked: &mut Vec<Worked<L>>,
-) -> bool
+) -> (bool, Vec<Tap>)
     requires taps { vec_len taps ≡ PAGES }
     requires sinks { vec_len sinks ≡ PAGES }
     requires none { (workers.old.items ≡ []) × (worked.old.items ≡ []) }
     ensures room { vec_len worked.new + length workers.new.items ≤ vec_capacity worked.new }
     ensures none { worked.new.items ≡ [] }
-    ensures all { OnTrue result (map start_of workers.new.items ≡ starts_of taps.items sinks.items) }
-    ensures some { StartsSome (starts_of taps.items sinks.items) workers.new.items }
+    ensures up_to { StartsUpTo result.0 (starts_of taps.items sinks.items) (map start_of workers.new.items) result.1.items }
 {
     let mut taps = VecDeque::from(taps);
     let mut sinks = VecDeque::from(sinks);
-    start_all(rt, alloc, &mut taps, &mut sinks, workers, worked)
+    let all = start_all(rt, alloc, &mut taps, &mut sinks, workers, worked);
+    (all, Vec::from(taps))
 }
 
 // Runs the node if all workers were started.
@@ -217,7 +228,8 @@ fn run_if<R: Wait, W: Words + Drop, X: Wire + Drop, C: Clock + Drop, P: Past<Ent
     all: bool,
     turns: u64,
 ) -> Result<(), NodeFault>
-    ensures { MatchResult result (λ _. (all ≡ true) × NodeKeepsLists node.new.view × RunsToEnd (calls_of C.reads X.receives X.sends X.pauses) turns node.old.view node.new.view) (λ fault. StopsBy (calls_of C.reads X.receives X.sends X.pauses) all fault turns node.old.view node.new.view) }
+    ensures runs { MatchResult result (λ _. (all ≡ true) × NodeKeepsLists node.new.view × RunsToEnd (calls_of C.reads X.receives X.sends X.pauses) turns node.old.view node.new.view) (λ fault. StopsBy (calls_of C.reads X.receives X.sends X.pauses) all fault turns node.old.view node.new.view) }
+    ensures begins { node.new.begins ≡ node.old.begins }
 {
     if !all {
         return Err(NodeFault::Memory);
@@ -251,8 +263,7 @@ fn start_all<
     requires none { (workers.old.items ≡ []) × (worked.old.items ≡ []) }
     ensures room { vec_len worked.new + length workers.new.items ≤ vec_capacity worked.new }
     ensures none { worked.new.items ≡ [] }
-    ensures all { OnTrue result (map start_of workers.new.items ≡ starts_of taps.old.items sinks.old.items) }
-    ensures some { StartsSome (starts_of taps.old.items sinks.old.items) workers.new.items }
+    ensures up_to { StartsUpTo result (starts_of taps.old.items sinks.old.items) (map start_of workers.new.items) taps.new.items }
 {
     for done in 0..PAGES {
         if !start_next(rt, alloc, taps, sinks, workers, worked) {
@@ -280,6 +291,7 @@ fn start_next<
     ensures none { worked.new.items ≡ worked.old.items }
     ensures next { OnTrue result (Starts taps.old.items taps.new.items sinks.old.items sinks.new.items workers.old.items workers.new.items) }
     ensures same { OnFalse result (map start_of workers.new.items ≡ map start_of workers.old.items) }
+    ensures left { taps.new.items ≡ drop 1 taps.old.items }
 {
     let Some(tap) = taps.pop_front() else {
         return false;

@@ -6,6 +6,9 @@
 //! A page worker ([`work`]) shows what it takes to a [`PageSink`]. [`host`] returns a [`Hosted`], with a [`Worked`] for each worker; [`host_with_ends`] returns the
 //! node's ends of its stroke queue and its control too. [`Node::counts`] returns what came to nothing ([`Counts`]). The wires and the clock are those of `srm_wire`.
 //!
+//! **A limit.** With [`Node::limit_missing`] a node drops a datagram that would make more drawops missing than the member is to request. It counts what it drops
+//! ([`Node::excess`]).
+//!
 //! ```
 //! let mut node = Node::new(alloc, config, words, wire, clock, feeds, well)?;
 //! let control = node.control(alloc)?; // With it another thread shows pages.
@@ -23,8 +26,10 @@ mod ending;
 mod fault;
 mod giving;
 mod hosting;
+mod laws;
 mod limits;
 mod listening;
+mod missing_limit;
 mod node;
 mod pausing;
 mod sending;
@@ -37,7 +42,8 @@ mod working;
 pub use counting::Counts;
 pub use fault::NodeFault;
 pub use hosting::{Hosted, NodeEnds, Worker, WorksOn, host, host_with_ends};
+pub use laws::without_a_limit_all_is_heard;
 pub use node::Node;
 pub use sink::PageSink;
-pub use srm_wire::{Clock, Fate, Flaky, MemWire, Sent, Wire, WireFault, hub};
+pub use srm_wire::{Clock, Fate, Flaky, MemWire, Sent, Wire, WireCounts, WireFault, hub};
 pub use working::{WorkEnd, Worked, work};

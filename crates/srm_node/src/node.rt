@@ -7,6 +7,7 @@ ghost use Rattle.srm_control.specs.Ends.{new_control, new_commands};
 ghost use Rattle.srm_node.specs.Counting.{counts_of};
 ghost use Rattle.srm_node.specs.Calls.{calls_of};
 ghost use Rattle.srm_node.specs.Nodes.{NodeKeepsLists, AreNewFeeds, IsNewJournal, IsNewNode, IsMadeNow, has_ended, recorded_in};
+ghost use Rattle.srm_node.specs.Limits.{with_excess, with_most};
 ghost use Rattle.srm_node.specs.Parts.{still_asked};
 ghost use Rattle.srm_node.specs.Waits.{WaitsByWords};
 ghost use Rattle.srm_node.specs.Moments.{GrowsNow};
@@ -20,6 +21,7 @@ use crate::ending::is_ended;
 use crate::fault::{NodeFault, OutOfMemory};
 use crate::giving::give_all;
 use crate::listening::{Listening, listen};
+use crate::missing_limit::{MissingLimit, with_excess};
 use crate::pausing::{Turn, time_to_pause};
 use crate::sending::send_all;
 use crate::showing::show_asked;
@@ -32,15 +34,16 @@ use srm_names::{LATEST_MOMENT, has_come};
 use srm_pages::ends::Well;
 use srm_pages::{Feed, Stroke};
 use srm_timers::Words;
-use srm_wire::{Clock, Wire};
-use srm_world::{Forgotten, Journal, Past, Recorder};
+use srm_wire::{Clock, Wire, WireCounts};
+use srm_world::{Forgotten, History, Journal, Past, Recorder};
 use std::alloc::{AllocError, Global};
 use std::marker::Model;
 use std::sync::Wait;
 
 /// A member that takes part in a session: its agent, a wire, a clock, the feeds of its page workers, its stroke queue, and its end of a control if it has one.
 ///
-/// All times are microseconds. Contracts see a record of these parts, with the wire and the clock as they stand, and the generator of random numbers.
+/// All times are microseconds. Contracts see a record of these parts, with the wire and the clock as they stand, the generator of random numbers, and how the record begins that the
+/// history is written to, if it is written to one.
 #[derive(Drop)]
 pub struct Node<
     W: Words + Drop,
@@ -59,6 +62,8 @@ pub struct Node<
     // When it is to leave, if it was asked to and hasn't left.
     asked: Option<u64>,
     commands: Option<PageCommands>,
+    // How much may be missing, and what was dropped for it.
+    limit: MissingLimit,
     // For each feed, whether it put its close.
     closed: Vec<bool>,
     // What the last turn did.
@@ -74,6 +79,7 @@ impl<W: Words + Drop, X: Wire + Drop, C: Clock + Drop, P: Past<Entry> + Drop> Mo
 
     ghost view = { λ n. record {
       view = record {
+        limit = n.limit;
         journal = n.recorder.journal;
         feeds = n.feeds.items;
         well = n.well;
@@ -86,9 +92,11 @@ impl<W: Words + Drop, X: Wire + Drop, C: Clock + Drop, P: Past<Entry> + Drop> Mo
         clock = n.clock;
       };
       words = n.recorder.words;
+      begins = n.recorder.begins;
     } };
 
     ghost invariant = { λ n. IsNode (record {
+      limit = n.limit;
       journal = n.recorder.journal;
       feeds = n.feeds.items;
       well = n.well;
@@ -120,6 +128,7 @@ impl<W: Words + Drop, X: Wire + Drop, C: Clock + Drop> Node<W, X, C> {
         requires well { well.received ≡ [] }
         ensures value { IfOk result (λ node. IsNewNode config feeds.items well (X.failure_count wire) (X.told wire) wire node.view) }
         ensures words { IfOk result (λ node. node.words ≡ words) }
+        ensures begins { IfOk result (λ node. node.begins ≡ None) }
         ensures made { IfOk result (λ node. IsMadeNow C.reads clock node.view) }
     {
         let past = Vec::new(alloc);
@@ -150,6 +159,7 @@ impl<W: Words + Drop, X: Wire + Drop, C: Clock + Drop> Node<W, X, C, Forgotten<E
         requires well { well.received ≡ [] }
         ensures value { IfOk result (λ node. IsNewNode config feeds.items well (X.failure_count wire) (X.told wire) wire node.view) }
         ensures words { IfOk result (λ node. node.words ≡ words) }
+        ensures begins { IfOk result (λ node. node.begins ≡ None) }
         ensures made { IfOk result (λ node. IsMadeNow C.reads clock node.view) }
     {
         let past = Forgotten::new();
@@ -174,6 +184,7 @@ impl<W: Words + Drop, X: Wire + Drop, C: Clock + Drop, P: Past<Entry> + Drop> No
         requires past { P.appended past ≡ [] }
         ensures value { IfOk result (λ node. IsNewNode config feeds.items well (X.failure_count wire) (X.told wire) wire node.view) }
         ensures words { IfOk result (λ node. node.words ≡ words) }
+        ensures begins { IfOk result (λ node. node.begins ≡ P.begins past) }
         ensures made { IfOk result (λ node. IsMadeNow C.reads clock node.view) }
     {
         let mut clock = clock;
@@ -197,6 +208,7 @@ impl<W: Words + Drop, X: Wire + Drop, C: Clock + Drop, P: Past<Entry> + Drop> No
         requires well { well.received ≡ [] }
         ensures value { IfOk result (λ node. IsNewNode config feeds.items well (X.failure_count wire) (X.told wire) wire node.view) }
         ensures words { IfOk result (λ node. node.words ≡ recorder.words) }
+        ensures begins { IfOk result (λ node. node.begins ≡ recorder.begins) }
         ensures clock { IfOk result (λ node. node.view.clock ≡ clock) }
         ensures journal { IfOk result (λ node. node.view.journal ≡ recorder.journal) }
     {
@@ -212,6 +224,11 @@ impl<W: Words + Drop, X: Wire + Drop, C: Clock + Drop, P: Past<Entry> + Drop> No
             buffer,
             asked: None,
             commands: None,
+            limit: MissingLimit {
+                most: None,
+                excess: 0,
+                unjudged: 0,
+            },
             closed,
             // The first turn comes at once.
             last: Turn::full(),
@@ -225,6 +242,32 @@ impl<W: Words + Drop, X: Wire + Drop, C: Clock + Drop, P: Past<Entry> + Drop> No
         ensures { self.new ≡ record self.old { view = record self.old.view { asked = Some at } } }
     {
         self.asked = Some(at);
+    }
+
+    /// Sets how many drawops may be missing; `None`, as at first, for any number. From now on a datagram that would make drawops missing, and then more than `most`, is
+    /// dropped as if the network had lost it: it has no entry, and is counted ([`excess`](Node::excess)). So is one for which memory runs out as the node looks at what it
+    /// would make missing. A datagram that makes nothing missing is heard, however much is missing already.
+    ///
+    /// A member that is further behind than this never catches up, since what tells it of the missing drawops is dropped. Takes no memory.
+    pub fn limit_missing(&mut self, most: Option<u32>)
+        ensures { self.new ≡ record self.old { view = record self.old.view { limit = with_most most self.old.view.limit } } }
+    {
+        self.limit.most = most;
+    }
+
+    /// Returns how many datagrams were dropped since they would have made too much missing, or since memory ran out as the node looked at that, up to 2^64 - 1.
+    pub fn excess(&self) -> u64
+        ensures { result ≡ self.now.view.limit.excess }
+    {
+        self.limit.excess
+    }
+
+    /// Returns what the wire has counted so far, and with it the datagrams that the node dropped ([`excess`](Node::excess)). Takes no memory.
+    pub fn wire_counts(&self) -> WireCounts
+        ensures { result ≡ with_excess self.now.view.limit.excess (X.counted self.now.view.wire) }
+    {
+        let counts = self.wire.counts();
+        with_excess(counts, self.limit.excess)
     }
 
     /// Makes a handle for one other thread, which shows and begins pages of the member. Each turn carries out its next command, in order, and answers it. A handle
@@ -244,13 +287,15 @@ impl<W: Words + Drop, X: Wire + Drop, C: Clock + Drop, P: Past<Entry> + Drop> No
 
     /// Turns once: the member hears, draws, leaves, shows a page, ticks and gives, as far as there is cause. The clock is read once, for the whole turn.
     ///
-    /// 1. It hears up to 64 datagrams, until none is there or a receive fails.
-    /// 2. It draws up to 64 strokes less the datagrams heard, but up to 8 in any case, as long as the rate lets each go at once. A stroke that the rate keeps back
+    /// 1. It hears up to 64 datagrams, until none is there or a receive fails. One that would make more missing than may be is dropped
+    ///    ([`limit_missing`](Node::limit_missing)), and is one of the 64.
+    /// 2. It draws up to 64 strokes less the datagrams that came, but up to 8 in any case, as long as the rate lets each go at once. A stroke that the rate keeps back
     ///    is in hand for the next turn. One that the agent refuses is dropped, and counted ([`counts`](Node::counts)).
     /// 3. It leaves if it was asked to by now, no stroke is left, and the queue was empty after a look that found all producers done.
     /// 4. It carries out the next command of its control, if there is one, and answers it.
     /// 5. It ticks, and sends what the tick sends to every other member, in rising order.
     /// 6. It gives each page slot messages while there is credit.
+    /// 7. It lets its history see how the member stands, and what the wire has counted and the node dropped ([`Past::turned`]). A turn that runs out of memory isn't seen.
     ///
     /// Returns `Wire` if a call of the wire failed. The turn was done to its end all the same: each datagram was tried to each other member, and what couldn't be sent is
     /// lost. Returns `Memory` if memory ran out, also if a call of the wire failed before. The turn ends in one step then, and the steps before are done: a stroke or a
@@ -271,7 +316,7 @@ impl<W: Words + Drop, X: Wire + Drop, C: Clock + Drop, P: Past<Entry> + Drop> No
         self.leave_now(none_left, now)?;
         self.show_now(rt, now)?;
         let unsent = self.tick_now(now)?;
-        self.give_now(rt)?;
+        self.end_turn(rt)?;
         if unheard | unsent {
             return Err(NodeFault::Wire);
         }
@@ -280,7 +325,8 @@ impl<W: Words + Drop, X: Wire + Drop, C: Clock + Drop, P: Past<Entry> + Drop> No
 
     /// Returns the history of what the member did so far, as it is kept. Takes no memory.
     pub fn past(&self) -> &P
-        ensures { P.appended result.now ≡ self.now.view.journal.entries }
+        ensures entries { P.appended result.now ≡ self.now.view.journal.entries }
+        ensures begins { P.begins result.now ≡ self.now.begins }
     {
         self.recorder.past()
     }
@@ -294,17 +340,18 @@ impl<W: Words + Drop, X: Wire + Drop, C: Clock + Drop, P: Past<Entry> + Drop> No
         (self.recorder.finish(), self.feeds)
     }
 
-    /// Ends the node, and returns its journal, its feeds, its stroke queue and its end of a control, if it has one. A producer that is done can be put beside the queue
+    /// Ends the node, and returns its history, its feeds, its stroke queue and its end of a control, if it has one. A producer that is done can be put beside the queue
     /// ([`Well::join_pen`]), and a control beside its end ([`settle_control`](srm_control::settle_control)). Takes no memory.
-    pub fn into_parts(self) -> (Journal<P>, Vec<Feed>, Well, Option<PageCommands>)
-        ensures journal { result.0 ≡ self.view.journal }
+    pub fn into_parts(self) -> (History<P>, Vec<Feed>, Well, Option<PageCommands>)
+        ensures journal { result.0.journal ≡ self.view.journal }
+        ensures begins { result.0.begins ≡ self.begins }
         ensures feeds { result.1.items ≡ self.view.feeds }
         ensures well { result.2 ≡ self.view.well }
         ensures control { result.3 ≡ self.view.control }
         ensures keeps { NodeKeepsLists self.view }
     {
-        let journal = self.recorder.finish();
-        (journal, self.feeds, self.well, self.commands)
+        let history = self.recorder.into_history();
+        (history, self.feeds, self.well, self.commands)
     }
 
     /// Turns up to `turns` times, with a pause before each turn but a node's first, until the member is gone and each feed has put its close or is disconnected. Reads
@@ -351,6 +398,7 @@ impl<W: Words + Drop, X: Wire + Drop, C: Clock + Drop, P: Past<Entry> + Drop> No
         ensures keeps { NodeKeepsLists self.new.view }
         ensures paused { Paused (calls_of C.reads X.receives X.sends X.pauses) self.old.view self.new.view }
         ensures words { self.new.words ≡ self.old.words }
+        ensures begins { self.new.begins ≡ self.old.begins }
     {
         let now = self.clock.now().min(LATEST_MOMENT);
         let due = lesser(self.recorder.next_due(), self.hand_due());
@@ -387,6 +435,7 @@ impl<W: Words + Drop, X: Wire + Drop, C: Clock + Drop, P: Past<Entry> + Drop> No
             &mut self.recorder,
             &mut self.wire,
             self.buffer.as_mut_slice(),
+            &mut self.limit,
             now,
         );
         let listening = listened?;
@@ -481,6 +530,25 @@ impl<W: Words + Drop, X: Wire + Drop, C: Clock + Drop, P: Past<Entry> + Drop> No
         );
         self.last.gave = gave;
         given
+    }
+
+    // Does the last two steps of a turn: gives the page slots their messages, and lets the history see the member.
+    fn end_turn<R: Wait>(&mut self, rt: &R) -> Result<(), OutOfMemory>
+        ensures keeps { NodeKeepsLists self.new.view }
+        ensures gives { MatchResult result (λ _. GivesNow PAGES self.old.view self.new.view) (λ _. GivesCut self.old.view self.new.view) }
+        ensures words { WaitsByWords W.next_word (recorded_in self.old) (recorded_in self.new) }
+    {
+        self.give_now(rt)?;
+        self.show_turn();
+        Ok(())
+    }
+
+    // Lets the history see how the member stands, and what the wire has counted and the node dropped.
+    fn show_turn(&mut self)
+        ensures { self.new ≡ self.old }
+    {
+        let counts = self.wire_counts();
+        self.recorder.turned(&counts);
     }
 }
 

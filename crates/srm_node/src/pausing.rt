@@ -1,7 +1,7 @@
 //! How long a node pauses between two turns.
 
-ghost use Rattle.std.specs.Prelude.{◌≡◌};
-ghost use Rattle.srm_node.specs.Pauses.{is_full, is_idle, longest_after, pause_after, shortest_after, time_until};
+ghost use Rattle.std.specs.Prelude.{◌≡◌, ◌≤◌};
+ghost use Rattle.srm_node.specs.Pauses.{LONGEST_PAUSE, is_full, is_idle, longest_after, pause_after, shortest_after, time_until};
 
 use crate::limits::DATAGRAMS_A_TURN;
 
@@ -78,8 +78,10 @@ impl Turn {
 /// Returns how long to pause at the moment `now` after a turn, in microseconds: until something is due, at most 10,000, and at most 1,000 after a turn that gave a
 /// message. After a turn that heard or drew all that it might, or found a command, it is 0, since more may be there. After a turn that heard and drew nothing, and
 /// found no command, it is at least 1,000.
+#[tactic(auto, using(crate::proofs::ShortPauses::pause_is_short))]
 pub fn time_to_pause(last: Turn, due: Option<u64>, now: u64) -> u64
-    ensures { result ≡ pause_after last due now }
+    ensures value { result ≡ pause_after last due now }
+    ensures short { result ≤ LONGEST_PAUSE }
 {
     if last.is_full() {
         return 0;

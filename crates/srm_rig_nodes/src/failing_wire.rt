@@ -1,9 +1,10 @@
 //! A wire that fails for ever.
 
 ghost use Rattle.std.specs.Prelude.{None};
+ghost use Rattle.srm_wire.specs.Counts.{only_failed};
 
 use srm_names::Member;
-use srm_node::{Wire, WireFault};
+use srm_node::{Wire, WireCounts, WireFault};
 
 /// A wire whose calls all fail from one on, for ever. It tells nothing.
 #[derive(Drop)]
@@ -37,6 +38,8 @@ impl<X: Wire + Drop> Wire for FailingWire<X> {
 
     ghost told = { λ _. None };
 
+    ghost counted = { λ w. only_failed w.failures };
+
     fn send(&mut self, to: Member, datagram: &[u8]) -> Result<(), WireFault> {
         if !fails(&mut self.left) {
             if let Ok(()) = self.wire.send(to, datagram) {
@@ -61,5 +64,9 @@ impl<X: Wire + Drop> Wire for FailingWire<X> {
 
     fn failures(&self) -> u64 {
         self.failures
+    }
+
+    fn counts(&self) -> WireCounts {
+        WireCounts::of_failures(self.failures)
     }
 }

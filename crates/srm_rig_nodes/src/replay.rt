@@ -1,9 +1,10 @@
 //! A wire that answers what it was made with.
 
 ghost use Rattle.std.specs.Prelude.{None};
+ghost use Rattle.srm_wire.specs.Counts.{only_failed};
 
 use srm_names::Member;
-use srm_node::{Wire, WireFault};
+use srm_node::{Wire, WireCounts, WireFault};
 
 /// A wire that answers datagrams that it was made with, one after another, and loses what is sent. It never fails, and tells nothing.
 #[derive(Drop)]
@@ -23,6 +24,8 @@ impl Wire for Replay {
 
     ghost told = { λ _. None };
 
+    ghost counted = { λ _. only_failed 0 };
+
     fn send(&mut self, _to: Member, _datagram: &[u8]) -> Result<(), WireFault> {
         Ok(())
     }
@@ -41,5 +44,9 @@ impl Wire for Replay {
 
     fn failures(&self) -> u64 {
         0
+    }
+
+    fn counts(&self) -> WireCounts {
+        WireCounts::of_failures(0)
     }
 }

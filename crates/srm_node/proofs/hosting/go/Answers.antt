@@ -4,7 +4,7 @@ use Rattle.srm_node.proofs.Hosts.{hosted}
 use Rattle.srm_node.proofs.hosting.go.Goals as goal
 
 pub returns-clause-ends : goal.returns-clause-ends
-returns-clause-ends g c = hosted (calls_of g.C.Clock.reads g.X.Wire.receives g.X.Wire.sends g.X.Wire.pauses) (kinds_of g.L.Past.appended g.L.Past.is_refused g.S.PageSink.sees) c.run_if-end.result c.args.node.view c.run_if-end.new.node.view _ c.args.turns c.args.all _ _ _ c.is_ok.result c.run_if-end.ensures c.into_parts-journal.ensures.keeps c.into_parts-journal.ensures.journal c.into_parts-journal.ensures.feeds c.into_parts-journal.ensures.well c.into_parts-journal.ensures.control c.kept-feeds.ensures.feeds c.kept-feeds.ensures.none c.is_ok.ensures.value c.join_all-worked.ensures
+returns-clause-ends g c = hosted (calls_of g.C.Clock.reads g.X.Wire.receives g.X.Wire.sends g.X.Wire.pauses) (kinds_of g.L.Past.appended g.L.Past.is_refused g.S.PageSink.sees) c.run_if-end.result c.args.node.view c.run_if-end.new.node.view _ c.args.turns c.args.all _ _ _ c.is_ok.result c.run_if-end.ensures.runs c.into_parts-history.ensures.keeps c.into_parts-history.ensures.journal c.into_parts-history.ensures.feeds c.into_parts-history.ensures.well c.into_parts-history.ensures.control c.kept-feeds.ensures.feeds c.kept-feeds.ensures.none c.is_ok.ensures.value c.join_all-worked.ensures
 
 pub returns-clause-each : goal.returns-clause-each
 returns-clause-each g c = c.join_all-worked.ensures
