@@ -1,5 +1,5 @@
 -- Each call of a recorder goes on from where it was.
-use Rattle.std.proofs.Common.{◌≡◌, ℕ, ap, ◌∙◌, inl, inr}
+use Rattle.std.proofs.Common.{◌≡◌, ℕ, refl, ap, ◌∙◌, inl, inr}
 use Rattle.std.specs.Prelude.{Option, Result, List}
 use Rattle.srm_entries.specs.declared.fault.AgentFault.{AgentFault}
 use Rattle.srm_entries.specs.declared.entry.Entry.{Entry}
@@ -31,3 +31,7 @@ stays next_word a b same = record { start = ap (λ (x : RecorderView _). x.journ
 
 pub goes_on_more : {W : Type 0} (next_word : W → ℕ × W) (a b c : RecorderView W) → GoesOn next_word a b → GoesOn next_word b c → GoesOn next_word a c
 goes_on_more next_word a b c h k = record { start = k.start ∙ h.start; words = words_go_on next_word a b c h.start h.words k.words }
+
+-- and the recorder ended
+pub records_to_end : {W : Type 0} (next_word : W → ℕ × W) (a b : RecorderView W) → RecordsByWords next_word a b → RecordsByWords next_word a (record { journal = b.journal; words = b.words; begins = a.begins })
+records_to_end next_word a b h = record { added = h.added; grown = h.grown; words = h.words; begins = refl }

@@ -8,3 +8,4 @@ mod Making
 mod Taken
 mod Remade
 mod Untold
+mod Beginning

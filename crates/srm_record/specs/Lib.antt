@@ -6,3 +6,4 @@ pub mod Making
 pub mod Replays
 pub mod Law
 pub mod RecordExamples
+pub mod Begun

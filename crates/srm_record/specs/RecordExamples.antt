@@ -1,11 +1,13 @@
 -- The worked record of docs/RECORDS.md, by the definitions.
-use Rattle.std.specs.Prelude.{◌≡◌, ℕ, [], ◌∷◌, ◌++◌, Some, refl}
+use Rattle.std.specs.Prelude.{◌≡◌, ℕ, List, [], ◌∷◌, ◌++◌, Option, Some, None, refl}
+use Rattle.std.proofs.Common.{ap, arith}
 use Rattle.srm_names.specs.declared.page_msg.PageMsg.TheVariants as messages
 use Rattle.srm_names.specs.Names.{first_page}
 use Rattle.srm_codec.specs.declared.datagram.Datagram.TheVariants.{Data}
 use Rattle.srm_codec.specs.Spelling.{page_bytes}
 use Rattle.srm_entries.specs.declared.entry.Entry.{Entry}
 use Rattle.srm_entries.specs.Sample.{in_roster, drawop_of, draws, ticks, gives}
+use Rattle.srm_world.specs.RecordStarts.{RecordStart}
 use Rattle.srm_frames.specs.declared.beginning.Beginning.{Beginning}
 use Rattle.srm_frames.specs.declared.line.Call.TheVariants.{Ticked, Gave}
 use Rattle.srm_frames.specs.Checksums.{after_byte, crc_32}
@@ -14,6 +16,8 @@ use Rattle.srm_frames.specs.Beginnings.{identity_fields, limit_fields, wait_fiel
 use Rattle.srm_frames.specs.Lines.{line_text, lines_text}
 use Rattle.srm_record.specs.Calls.{lines_of}
 use Rattle.srm_record.specs.Takes.{takes_at, end_at, lists_in}
+use Rattle.srm_record.specs.Records.{whole_record}
+use Rattle.srm_record.specs.Begun.{IsRecorded, IsStored, begins_in, beginning_in, begun_with}
 use Rattle.srm_record.specs.Writing.{Stays}
 
 abbrev began : Beginning
@@ -71,3 +75,29 @@ it_grows = (0x52 ∷ [], refl)
 
 it_shrinks : Stays (Some (0x53 ∷ 0x52 ∷ [])) (Some (0x53 ∷ [])) → ⊥
 it_shrinks (more, is) = let gone : 0x53 ∷ [] ≡ 0x53 ∷ 0x52 ∷ more = is in absurd (cc)
+
+-- a record of this beginning, in a file that held a byte, is stored behind that byte, and not in its place
+held_a_byte : IsStored (begun_with began (Some (0x20 ∷ []))) [] [] (Some (0x20 ∷ whole_record began [] []))
+held_a_byte = refl
+
+not_in_its_place : (more : List ℕ) → IsStored (begun_with began (Some (0x20 ∷ []))) [] [] (Some (0x21 ∷ more)) → ⊥
+not_in_its_place more h = cc
+
+-- what is known of a beginning is all that stands in it
+begins_as_it_was : (first : Option (List ℕ)) → beginning_in (begun_with began first) ≡ began
+begins_as_it_was first = refl
+
+-- with another seed it begins otherwise
+another_seed : (first : Option (List ℕ)) → begun_with (record began { seed = 10 }) first ≡ begun_with began first → ⊥
+another_seed first e = let seeds : 10 ≡ 9 = ap (λ (r : RecordStart). r.seed) e in omega (arith, seeds)
+
+-- a history without a file is written to no record
+no_file_no_record : begins_in None ≡ None
+no_file_no_record = refl
+
+-- and leaves no file; one that is written to a record leaves its file, and not none
+leaves_no_file : IsRecorded {F = List ℕ} Some None [] [] None
+leaves_no_file = refl
+
+not_without_its_file : (r : RecordStart) → IsRecorded {F = List ℕ} Some (Some r) [] [] None → ⊥
+not_without_its_file r h = h

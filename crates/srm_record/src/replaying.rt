@@ -159,10 +159,11 @@ fn journal(alloc: Global, beginning: Beginning, lines: &[Line]) -> Result<Journa
 }
 
 /// The journal of a recorder that these calls were made of, whose last moment is this.
+#[tactic(auto, using(crate::proofs::GoingOn::records_to_end))]
 fn played(recorder: Recorder<Pcg>, clock: u64, lines: &[Line]) -> Result<Journal, AllocError>
     requires { clock ≡ last_moment recorder.journal.start.made recorder.journal.entries }
     ensures start { IfOk result (λ j. j.start ≡ recorder.journal.start) }
-    ensures words { IfOk result (λ j. (to : Lcg) × RecordsByWords pcg64 recorder (record { journal = j; words = to })) }
+    ensures words { IfOk result (λ j. (to : Lcg) × RecordsByWords pcg64 recorder (record { journal = j; words = to; begins = recorder.begins })) }
     ensures lawful { IfOk result IsLawfulJournal }
     ensures made { IfOk result (MakesAll lines.now recorder.journal) }
 {

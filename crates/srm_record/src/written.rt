@@ -1,17 +1,21 @@
 //! A member's history that is written to a file as it goes.
 
-ghost use Rattle.std.specs.Prelude.{◌≡◌, ◌≤◌, [], None, true, length, IsSomeAnd, MatchOption};
+ghost use Rattle.std.specs.Prelude.{◌≡◌, ◌≤◌, [], None, true, length, option_map, IsSomeAnd, MatchOption};
 ghost use Rattle.std.specs.Io.KnownBytes.{Appends};
 ghost use Rattle.srm_names.specs.declared.limits.TheConstants.{PAGES};
 ghost use Rattle.srm_record.specs.Records.{whole_record};
 ghost use Rattle.srm_record.specs.Takes.{lent};
 ghost use Rattle.srm_output.specs.Writing.{AppendsFront};
 ghost use Rattle.srm_record.specs.Writing.{IsWritten, NotesIn, Stays};
+ghost use Rattle.srm_record.specs.Begun.{IsRecorded, begins_in, begun_with};
 
 use crate::record_file::RecordFile;
+use srm_agent::Agent;
 use srm_entries::Entry;
 use srm_frames::Beginning;
 use srm_names::PageMsg;
+use srm_timers::Words;
+use srm_wire::WireCounts;
 use srm_world::Past;
 use std::alloc::{AllocError, Global};
 use std::io::Write;
@@ -21,6 +25,8 @@ use std::marker::Model;
 ///
 /// A call that sends is written before [`append`](Past::append) returns, and so before any of its datagrams leaves. Other calls are written with the first call 200 ms of the
 /// member's clock later, or once they have 64 KiB. If the file fails, or memory runs out for what is to be written, nothing more is written, and the history goes on without.
+///
+/// Contracts see how its record begins ([`Past`]), and no call changes that: a file that it has stays with it until [`end`](Written::end).
 #[derive(Drop)]
 pub struct Written<F: Write + Drop, P: Past<Entry> + Drop> {
     past: P,
@@ -49,10 +55,12 @@ pub struct Ended<F: Write + Drop, P: Past<Entry> + Drop> {
 impl<F: Write + Drop, P: Past<Entry> + Drop> Written<F, P> {
     /// Makes the history of a member that begins so and did nothing yet. The file, if there is one, gets the member's record from now on. It never fails: [`Ended::whole`] says whether
     /// all was written.
-    #[tactic(auto, using(crate::proofs::Filing::written_at_first))]
+    #[tactic(auto, using(crate::proofs::Filing::written_at_first, crate::proofs::Beginning::begins_so))]
     pub fn new(alloc: Global, file: Option<F>, beginning: Beginning, past: P) -> Written<F, P>
         requires { P.appended past ≡ [] }
+        ensures past { result.past ≡ past }
         ensures entries { result.entries ≡ [] }
+        ensures begins { begins_in result.file ≡ option_map (λ f. begun_with beginning (F.contents f)) file }
         ensures file { MatchOption file (result.file ≡ None) (λ f. IsSomeAnd result.file (λ v. (v.beginning ≡ beginning) × (v.first ≡ F.contents f))) }
     {
         match file {
@@ -77,6 +85,7 @@ impl<F: Write + Drop, P: Past<Entry> + Drop> Written<F, P> {
         requires { length taken.now ≤ PAGES }
         ensures past { result.past ≡ self.past }
         ensures whole { result.whole ≡ true → MatchOption self.file (result.file ≡ None) (λ v. IsSomeAnd result.file (λ f. Appends v.first (F.contents f) (whole_record v.beginning self.entries (lent taken.now)))) }
+        ensures stored { result.whole ≡ true → IsRecorded F.contents (begins_in self.file) self.entries (lent taken.now) result.file }
         ensures front { MatchOption self.file (result.file ≡ None) (λ v. IsSomeAnd result.file (λ f. AppendsFront v.first (F.contents f) (whole_record v.beginning self.entries (lent taken.now)))) }
         ensures stays { MatchOption self.file (result.file ≡ None) (λ v. IsSomeAnd result.file (λ f. Stays v.now (F.contents f))) }
     {
@@ -106,6 +115,8 @@ impl<F: Write + Drop, P: Past<Entry> + Drop> Past<Entry> for Written<F, P> {
 
     ghost is_refused = { λ w. P.is_refused w.past };
 
+    ghost begins = { λ w. begins_in w.file };
+
     fn empty(alloc: Global) -> Written<F, P> {
         Written {
             past: P::empty(alloc),
@@ -117,10 +128,14 @@ impl<F: Write + Drop, P: Past<Entry> + Drop> Past<Entry> for Written<F, P> {
         self.past.make_room()
     }
 
-    #[tactic(auto, using(crate::proofs::Filing::written_on))]
+    #[tactic(auto, using(crate::proofs::Filing::written_on, crate::proofs::Beginning::begins_on))]
     fn append(&mut self, one: Entry) {
         note_in(&mut self.file, &one);
         self.past.append(one);
+    }
+
+    fn turned<W: Words + Drop>(&mut self, agent: &Agent<W>, counts: &WireCounts) {
+        self.past.turned(agent, counts);
     }
 }
 
