@@ -3,10 +3,10 @@ use Rattle.std.specs.Prelude.{◌≡◌, true, false, [], ◌∷◌, Some, None,
 use Rattle.srm_udp.specs.Udp.{new_wire}
 use Rattle.srm_guarded.specs.Guarding.{guarded_wire, keeping_to}
 
--- a plain member's guard has no key and no limit, and its wire takes datagrams from any address
-nothing_is_dropped : guarded_wire [] (record { only_roster = false; key = None; most_missing = None }) None ≡ record { wire = new_wire []; key = None; limited = false; dropped = record { untagged = 0; excess = 0 }; own = 0 }
+-- a plain member's guard has no key, and its wire takes datagrams from any address
+nothing_is_dropped : guarded_wire [] (record { only_roster = false; key = None; most_missing = None }) None ≡ record { wire = new_wire []; seal = None; dropped = record { untagged = 0; older = 0; again = 0 }; own = 0 }
 nothing_is_dropped = refl
 
--- with a limit it has one, and with --only-roster its wire keeps to the roster
-all_is_looked_at : guarded_wire [] (record { only_roster = true; key = None; most_missing = Some 5 }) (Some (7 ∷ [])) ≡ record { wire = keeping_to true (new_wire []); key = Some (7 ∷ []); limited = true; dropped = record { untagged = 0; excess = 0 }; own = 0 }
+-- with --only-roster its wire keeps to the roster; --most-missing is a limit of its node
+all_is_looked_at : guarded_wire [] (record { only_roster = true; key = None; most_missing = Some 5 }) None ≡ record { wire = keeping_to true (new_wire []); seal = None; dropped = record { untagged = 0; older = 0; again = 0 }; own = 0 }
 all_is_looked_at = refl

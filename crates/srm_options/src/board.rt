@@ -5,7 +5,7 @@ ghost use Rattle.srm_options.specs.Boards.{IsBoardInRange, KeepsOut};
 
 use crate::help::{BOARD, BOARD_MORE};
 use crate::mistake::Mistake;
-use crate::node::{flag, member_command, option, options_in, told};
+use crate::node::{flag, node_command, option, options_in, told};
 use crate::node_options::NodeOptions;
 use crate::reply::Reply;
 use crate::resolving::{Resolve, System};
@@ -96,7 +96,7 @@ pub(crate) fn board_command<'a>(alloc: Global) -> Result<Command<'a>, AllocError
         "no-token",
         "leaves the token out of the page's address: whoever reaches it can look and draw",
     );
-    member_command(alloc, true)?
+    node_command(alloc, true)?
         .name("board")
         .bin_name("srm board")?
         .about(BOARD)

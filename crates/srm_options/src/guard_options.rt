@@ -16,9 +16,9 @@ pub const MOST_MISSING: u32 = DRAWOPS * MEMBERS as u32 * PAGES as u32;
 /// Which datagrams a node drops, as if the network had lost them.
 #[derive(Debug, Drop)]
 pub struct GuardOptions {
-    /// Whether it drops what doesn't come from an address of the roster.
+    /// Whether it drops what doesn't come from an address of the roster, and what names another sender than the member of its address.
     pub only_roster: bool,
-    /// The path of the key file that all members share. With it the node tags what it sends, and drops what has no right tag.
+    /// The path of the key file that all members share. With it the node numbers and tags what it sends, and drops what has no right tag or came before.
     pub key: Option<String>,
     /// How many drawops may be missing, 1 to 16,777,216: the node drops a datagram that would make more missing. `None` for no limit.
     pub most_missing: Option<u32>,
@@ -49,18 +49,18 @@ pub fn with_guard<'a>(alloc: Global, command: Command<'a>) -> Result<Command<'a>
         .arg(flag(
             alloc,
             "only-roster",
-            "drops what doesn't come from an ADDR, as --live does unless --any-origin is given",
+            "drops what doesn't come from its sender's ADDR, as --live does unless --any-origin is given",
         ))?
         .arg(flag(
             alloc,
             "any-origin",
-            "takes datagrams from any address, as without --live",
+            "takes datagrams from any address and any sender, as without --live",
         ))?
         .arg(option(
             alloc,
             "key",
             "FILE",
-            "tags each datagram by the key in this file, 16 to 1024 bytes, and drops what has no right tag",
+            "numbers and tags each datagram by the key in this file, 16 to 1024 bytes, and drops what has no right tag or came before",
         ))?
         .arg(most_missing)
 }

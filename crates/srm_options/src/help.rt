@@ -153,7 +153,8 @@ end of input at a terminal (Ctrl-D). At its end standard error tells how many
 datagrams the network refused to take, and how many came and were dropped, by
 cause.
 
-Status: 0; 1 for a key that can't be used; 2 for a wrong command line; 3 where the
-page can't be served, the address can't be bound or the socket fails; 4 for want of
-memory, or where all turns were spent.
+Status: 0; 1 for a key that can't be used, or for a record that can't be made or
+written whole; 2 for a wrong command line; 3 where the page can't be served, the
+address can't be bound or the socket fails; 4 for want of memory, or where all turns
+were spent.
 ";

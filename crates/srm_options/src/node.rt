@@ -78,24 +78,19 @@ fn is_live(arguments: &[&str]) -> bool {
 
 /// Makes the command, for its own arguments and for the help on all commands. A live member's takes times in seconds too.
 pub(crate) fn node_command<'a>(alloc: Global, live: bool) -> Result<Command<'a>, AllocError> {
-    let record = option(
-        alloc,
-        "record",
-        "FILE",
-        "writes what the member is handed and what its page workers took to this file, which must not exist; srm audit judges it",
-    );
-    member_command(alloc, live)?.arg(record)
-}
-
-/// Makes the command of a member that writes no record.
-pub(crate) fn member_command<'a>(alloc: Global, live: bool) -> Result<Command<'a>, AllocError> {
     let command = Command::new(alloc, "node")
         .bin_name("srm node")?
         .no_binary_name(true)
         .about(NODE)
         .after_help(NODE_MORE);
     let command = with_limits(alloc, with_member(alloc, command, live)?, live)?;
-    with_addresses(alloc, with_guard(alloc, command)?)
+    let record = option(
+        alloc,
+        "record",
+        "FILE",
+        "writes what the member is handed and what its page workers took to this file, which must not exist; srm audit judges it",
+    );
+    with_addresses(alloc, with_guard(alloc, command)?)?.arg(record)
 }
 
 /// An option with a value.
