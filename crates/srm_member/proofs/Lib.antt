@@ -7,5 +7,6 @@ pub mod Elements
 pub mod Lanes
 pub mod Splitting
 pub mod Stations
+pub mod Storing
 pub mod Strokes
 pub mod WholeTakes

@@ -1,7 +1,7 @@
 -- What a member that is run by its options comes to.
-use Rattle.std.proofs.Common.{◌≡◌, ◌⊎◌, ◌≤◌, ℕ, List, refl, ap, ◌∙◌, inl, inr, arith, lit≤}
+use Rattle.std.proofs.Common.{◌≡◌, ◌⊎◌, ◌≤◌, ℕ, List, refl, ap, ◌∙◌, subst, inl, inr, arith, lit≤}
 use Rattle.std.specs.Io.KnownBytes.{Keeps}
-use Rattle.std.specs.Prelude.{Option, Some, None, Result, Ok, Err, IfSome, IfErr}
+use Rattle.std.specs.Prelude.{Bool, true, false, Option, Some, None, Result, Ok, Err, IfSome, IfErr, is_some}
 use Rattle.srm_udp.specs.declared.first_failure.WireFailure.{WireFailure}
 use Rattle.srm_script.specs.declared.fault.ScriptFault.TheVariants.{StandardInput, TooLong, BadLine, Output, Memory}
 use Rattle.srm_script.specs.declared.status.TheConstants.{WIRE_FAILED, RAN_OUT}
@@ -9,7 +9,23 @@ use Rattle.srm_member.specs.declared.fault.MemberFault.{MemberFault}
 use Rattle.srm_member.specs.declared.fault.MemberFault.TheVariants.{Script, Wire, Binding, Call, Turns, Key, Record}
 use Rattle.srm_member.specs.Statuses.{fault_with_call, status_of_member}
 use Rattle.srm_member.specs.Lines.{lines_of, dealt_of}
-use Rattle.srm_member.specs.MemberRuns.{FaultKeeps}
+use Rattle.srm_pages.specs.Ends.{TapView, PenView}
+use Rattle.srm_udp.specs.Clocks.{ClockView}
+use Rattle.srm_udp.specs.Resting.{RestedView, new_rested}
+use Rattle.srm_udp.specs.Udp.{UdpView}
+use Rattle.srm_guard.specs.Guards.{GuardView}
+use Rattle.srm_guard.specs.Seals.{SealView}
+use Rattle.srm_guarded.specs.Guarding.{IsSealBy, guarded_wire}
+use Rattle.srm_guarded.specs.Keying.{IsKeyRead}
+use Rattle.srm_options.specs.declared.node_options.NodeOptions.{NodeOptions}
+use Rattle.srm_names.specs.declared.page_msg.PageMsg.{PageMsg}
+use Rattle.srm_entries.specs.declared.entry.Entry.{Entry}
+use Rattle.srm_world.specs.declared.start.Start.{Start}
+use Rattle.srm_world.specs.RecordStarts.{RecordStart}
+use Rattle.srm_record.specs.Begun.{IsRecorded}
+use Rattle.srm_node.specs.Nodes.{NodeView}
+use Rattle.srm_member.specs.Stations.{BeginsIn, IsNewStation}
+use Rattle.srm_member.specs.MemberRuns.{FaultKeeps, IsStoredIf, RecordsWholeRun, RunsRecorded, member_calls}
 
 -- the lines that are dealt are those of the input, if that is known
 pub lines_known : (known : Option (List ℕ)) (input text : List ℕ) (dealt : List (List (List ℕ))) → IfSome known (λ t. input ≡ t) → text ≡ input → dealt ≡ dealt_of (lines_of text) → IfSome known (λ t. dealt ≡ dealt_of (lines_of t))
@@ -91,3 +107,20 @@ pub kept_by_status : (f : MemberFault) (status : ℕ) (Printed : Type 0) (before
 kept_by_status f status Printed before after is (inl output) which = not_1 status (Keeps before after) (is ∙ ap status_of_member output) which
 kept_by_status f status Printed before after is (inr (inl (unwritten, printed))) which = not_1 status (Keeps before after) (is ∙ ap status_of_member unwritten) which
 kept_by_status f status Printed before after is (inr (inr kept)) which = kept
+
+-- of a record that was asked for, the file that was opened has all
+pub stored_if : {F : Type 0} (contents : F → Option (List ℕ)) (opened closed : Option F) (seed : ℕ) (start : Start) (begins : Option RecordStart) (es : List Entry) (took : List (List PageMsg)) → BeginsIn contents opened seed start begins → IsRecorded contents begins es took closed
+    → IsStoredIf contents (is_some opened) seed start es took
+stored_if contents None closed seed start begins es took began recorded = tt
+stored_if contents (Some file) None seed start begins es took (r, is, at, by, first) recorded = absurd (subst (λ b. IsRecorded contents b es took None) is recorded)
+stored_if contents (Some file) (Some last) seed start begins es took (r, is, at, by, first) recorded = (file, last, r, at, by, first, subst (λ b. IsRecorded contents b es took (Some last)) is recorded)
+
+-- a member whose station ran to its end, with the file that was opened for its record, if one was
+pub recorded_member : {F : Type 0} (contents remaining : F → Option (List ℕ)) (options : NodeOptions) (input before after : Option (List ℕ)) (key : Option (List ℕ)) (seal : Option SealView) (node : NodeView (RestedView (GuardView UdpView)) ClockView) (taps : List TapView) (pens : List PenView) (dealt : List (List (List ℕ))) (opened closed : Option F)
+    (begins : Option RecordStart) → is_some key ≡ is_some options.guard.key → IsKeyRead remaining options.guard.key key → IsSealBy key options.config.me seal → IsNewStation options.config options.stay options.guard.most_missing None (new_rested (guarded_wire options.addresses.items options.guard seal)) node taps pens → IfSome input (λ text. dealt ≡ dealt_of (lines_of text))
+    → is_some opened ≡ is_some options.«record» → BeginsIn contents opened options.seed node.journal.start begins → RunsRecorded contents member_calls options.turns dealt node begins closed before after → RecordsWholeRun contents remaining options input before after
+recorded_member {F} contents remaining options input before after key seal node taps pens dealt opened closed begins keyed read sealed new lines asked began (took, whole, printed, recorded) = record {
+  run = record { key = key; keyed = keyed; seal = seal; sealed = sealed; node = node; taps = taps; pens = pens; new = new; dealt = dealt; lines = lines; took = took; whole = whole; printed = printed };
+  read = read;
+  stored = subst (λ (b : Bool). IsStoredIf contents b options.seed node.journal.start whole.host.last.journal.entries took) asked (stored_if contents opened closed options.seed node.journal.start begins whole.host.last.journal.entries took began recorded);
+}

@@ -15,6 +15,8 @@ use Rattle.srm_pages.specs.Ends.{TapView, PenView, WellView}
 use Rattle.srm_pages.specs.Ink.{strokes_of}
 use Rattle.srm_entries.specs.Giving.{given}
 use Rattle.srm_world.specs.Traces.{Journal}
+use Rattle.srm_world.specs.RecordStarts.{RecordStart}
+use Rattle.srm_record.specs.Begun.{IsRecorded}
 use Rattle.srm_node.specs.declared.fault.NodeFault.{NodeFault}
 use Rattle.srm_node.specs.declared.fault.NodeFault.TheVariants.{Wire, Memory, Turns}
 use Rattle.srm_node.specs.declared.hosting.Hosted.{Hosted}
@@ -143,12 +145,12 @@ whole_host {P} {L} calls kinds turns node taps pens sinks left h ends count (x, 
   takes = whole_at calls kinds turns node taps pens sinks left h ends (x, well_is, control_is) takes closed;
 }
 
--- and with it the stroke queue and the end of a control that the node had at its end
+-- and with it the stroke queue, the end of a control and the journal that the node had at its end
 pub whole_host_ends : {P L S X C : Type 0} (calls : Calls X C) (kinds : Kinds L S) (turns : ℕ) (node : NodeView X C) (taps : List TapView) (pens : List PenView) (sinks : List S) (left : NodeEnds) (h : Hosted P L)
     → HasNewEnds node taps pens → length sinks ≡ PAGES → HostsWith calls kinds node (zip taps sinks) turns left h → TakePrefixes h.feeds.items (map (λ (w : Worked L). w.tap) h.worked.items) → list_all (λ (w : Worked L). list_any is_close (kinds.entries w.list)) h.worked.items ≡ true
-    → (host : IsWholeHost calls turns node (map (λ (w : Worked L). kinds.entries w.list) h.worked.items)) × (left.well ≡ host.last.well) × (left.commands ≡ host.last.control)
+    → (host : IsWholeHost calls turns node (map (λ (w : Worked L). kinds.entries w.list) h.worked.items)) × (left.well ≡ host.last.well) × (left.commands ≡ host.last.control) × (h.history.journal ≡ host.last.journal)
 unfolding whole_host
-whole_host_ends {P} {L} calls kinds turns node taps pens sinks left h ends count (x, well_is, control_is) takes closed = (whole_host calls kinds turns node taps pens sinks left h ends count (x, well_is, control_is) takes closed, well_is, control_is)
+whole_host_ends {P} {L} calls kinds turns node taps pens sinks left h ends count (x, well_is, control_is) takes closed = (whole_host calls kinds turns node taps pens sinks left h ends count (x, well_is, control_is) takes closed, well_is, control_is, x.journal)
 
 pub whole_run : {P L S X C : Type 0} (calls : Calls X C) (kinds : Kinds L S) (turns : ℕ) (node : NodeView X C) (taps : List TapView) (pens inked : List PenView) (sinks : List S) (dealt : List (List (List ℕ))) (left : NodeEnds) (h : Hosted P L)
     → HasNewEnds node taps pens → length sinks ≡ PAGES → HostsWith calls kinds node (zip taps sinks) turns left h → PensDrew (zip pens dealt) inked
@@ -170,13 +172,27 @@ without_fault (Err Turns) false A none holds = cc
 -- and what was printed is what its workers took, by its own member
 pub printed_run : {P L S X C : Type 0} (calls : Calls X C) (kinds : Kinds L S) (turns : ℕ) (node : NodeView X C) (taps : List TapView) (pens inked : List PenView) (sinks : List S) (dealt : List (List (List ℕ))) (left : NodeEnds) (h : Hosted P L) (before after : Option (List ℕ)) (me : ℕ)
     → HasNewEnds node taps pens → length sinks ≡ PAGES → HostsWith calls kinds node (zip taps sinks) turns left h → PensDrew (zip pens dealt) inked
-    → TakePrefixes h.feeds.items (map (λ (w : Worked L). w.tap) h.worked.items) → list_all (λ (w : Worked L). list_any is_close (kinds.entries w.list)) h.worked.items ≡ true → AllByRecursion (IsReceivedOf left.well.received) inked → me ≡ h.journal.start.config.me
+    → TakePrefixes h.feeds.items (map (λ (w : Worked L). w.tap) h.worked.items) → list_all (λ (w : Worked L). list_any is_close (kinds.entries w.list)) h.worked.items ≡ true → AllByRecursion (IsReceivedOf left.well.received) inked → me ≡ h.history.journal.start.config.me
     → Appends before after (taken_text me (map (λ (w : Worked L). kinds.entries w.list) h.worked.items))
     → (whole : IsWholeRun calls turns dealt node (map (λ (w : Worked L). kinds.entries w.list) h.worked.items)) × Appends before after (taken_text whole.host.last.journal.start.config.me (map (λ (w : Worked L). kinds.entries w.list) h.worked.items))
 unfolding whole_run whole_host
 printed_run {P} {L} calls kinds turns node taps pens inked sinks dealt left h before after me ends count (x, well_is, control_is) drew takes closed parts of printed = (
   whole_run calls kinds turns node taps pens inked sinks dealt left h ends count (x, well_is, control_is) drew takes closed parts,
   subst (λ (m : ℕ). Appends before after (taken_text m (map (λ (w : Worked L). kinds.entries w.list) h.worked.items))) (of ∙ ap (λ (j : Journal). j.start.config.me) x.journal) printed,
+)
+
+-- and the file of its record has all of it
+pub recorded_run : {P L S X C F : Type 0} (calls : Calls X C) (kinds : Kinds L S) (turns : ℕ) (node : NodeView X C) (taps : List TapView) (pens inked : List PenView) (sinks : List S) (dealt : List (List (List ℕ))) (left : NodeEnds) (h : Hosted P L) (before after : Option (List ℕ)) (me : ℕ)
+    (contents : F → Option (List ℕ)) (begins : Option RecordStart) (file : Option F) → HasNewEnds node taps pens → length sinks ≡ PAGES → HostsWith calls kinds node (zip taps sinks) turns left h → PensDrew (zip pens dealt) inked
+    → TakePrefixes h.feeds.items (map (λ (w : Worked L). w.tap) h.worked.items) → list_all (λ (w : Worked L). list_any is_close (kinds.entries w.list)) h.worked.items ≡ true → AllByRecursion (IsReceivedOf left.well.received) inked → me ≡ h.history.journal.start.config.me
+    → Appends before after (taken_text me (map (λ (w : Worked L). kinds.entries w.list) h.worked.items)) → IsRecorded contents begins h.history.journal.entries (map (λ (w : Worked L). kinds.entries w.list) h.worked.items) file
+    → (whole : IsWholeRun calls turns dealt node (map (λ (w : Worked L). kinds.entries w.list) h.worked.items)) × Appends before after (taken_text whole.host.last.journal.start.config.me (map (λ (w : Worked L). kinds.entries w.list) h.worked.items))
+    × IsRecorded contents begins whole.host.last.journal.entries (map (λ (w : Worked L). kinds.entries w.list) h.worked.items) file
+unfolding whole_run whole_host
+recorded_run {P} {L} calls kinds turns node taps pens inked sinks dealt left h before after me contents begins file ends count (x, well_is, control_is) drew takes closed parts of printed recorded = (
+  whole_run calls kinds turns node taps pens inked sinks dealt left h ends count (x, well_is, control_is) drew takes closed parts,
+  subst (λ (m : ℕ). Appends before after (taken_text m (map (λ (w : Worked L). kinds.entries w.list) h.worked.items))) (of ∙ ap (λ (j : Journal). j.start.config.me) x.journal) printed,
+  subst (λ (j : Journal). IsRecorded contents begins j.entries (map (λ (w : Worked L). kinds.entries w.list) h.worked.items) file) x.journal recorded,
 )
 
 started : {X : Type 0} (all : Bool) (r : Option X) (x : X) → (all ≡ false → r ≡ None) → r ≡ Some x → all ≡ true

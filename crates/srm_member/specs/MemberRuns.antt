@@ -1,17 +1,23 @@
 -- What a member comes to that is run by its options.
-use Rattle.std.specs.Prelude.{◌≡◌, ◌⊎◌, ℕ, List, Option, None, IfSome, is_some}
+use Rattle.std.specs.Prelude.{◌≡◌, ◌⊎◌, ℕ, Bool, true, false, List, Option, None, IfSome, is_some}
 use Rattle.std.specs.Io.KnownBytes.{Appends, Keeps}
 use Rattle.srm_names.specs.declared.page_msg.PageMsg.{PageMsg}
 use Rattle.srm_pages.specs.Ends.{TapView, PenView}
 use Rattle.srm_udp.specs.Clocks.{ClockView, NeverFalls}
 use Rattle.srm_udp.specs.Resting.{RestedView, new_rested, SendsRested, ReceivesRested, PausesRested}
 use Rattle.srm_udp.specs.Udp.{UdpView}
+use Rattle.srm_guard.specs.Seals.{SealView}
 use Rattle.srm_guard.specs.Guards.{GuardView}
-use Rattle.srm_guarded.specs.Guarding.{guarded_wire, GuardedReceives, GuardedSends, GuardedPauses}
+use Rattle.srm_guarded.specs.Keying.{IsKeyRead}
+use Rattle.srm_guarded.specs.Guarding.{IsSealBy, guarded_wire, GuardedReceives, GuardedSends, GuardedPauses}
 use Rattle.srm_options.specs.declared.node_options.NodeOptions.{NodeOptions}
 use Rattle.srm_script.specs.declared.fault.ScriptFault.TheVariants.{Output}
 use Rattle.srm_member.specs.declared.fault.MemberFault.{MemberFault}
 use Rattle.srm_member.specs.declared.fault.MemberFault.TheVariants.{Script, Record}
+use Rattle.srm_entries.specs.declared.entry.Entry.{Entry}
+use Rattle.srm_world.specs.declared.start.Start.{Start}
+use Rattle.srm_world.specs.RecordStarts.{RecordStart}
+use Rattle.srm_record.specs.Begun.{IsRecorded, IsStored}
 use Rattle.srm_node.specs.Calls.{Calls, calls_of}
 use Rattle.srm_node.specs.Nodes.{NodeView}
 use Rattle.srm_member.specs.Lines.{lines_of, dealt_of}
@@ -27,21 +33,40 @@ member_calls = calls_of NeverFalls (λ r room answer s. ReceivesRested (λ g spa
 abbrev pub PrintsRun : {X C : Type 0} → Calls X C → ℕ → List (List (List ℕ)) → NodeView X C → Option (List ℕ) → Option (List ℕ) → Type 0
 PrintsRun calls turns dealt node before after = (took : List (List PageMsg)) × (whole : IsWholeRun calls turns dealt node took) × Appends before after (taken_text whole.host.last.journal.start.config.me took)
 
+-- And the file of its record, if it has one, has all of it: how it began, each call of its journal, and what its page workers took.
+abbrev pub RunsRecorded : {F X C : Type 0} → (F → Option (List ℕ)) → Calls X C → ℕ → List (List (List ℕ)) → NodeView X C → Option RecordStart → Option F → Option (List ℕ) → Option (List ℕ) → Type 0
+RunsRecorded contents calls turns dealt node begins file before after = (took : List (List PageMsg)) × (whole : IsWholeRun calls turns dealt node took) × Appends before after (taken_text whole.host.last.journal.start.config.me took) × IsRecorded contents begins whole.host.last.journal.entries took file
+
+-- A record was asked for, and a file was opened for it. Now the file has, behind what it held then: these settings, this seed and the moment at which the member was made; each of these calls;
+-- what the page workers took; and that this is all. Where none was asked for, nothing is said.
+abbrev pub IsStoredIf : {F : Type 0} → (F → Option (List ℕ)) → Bool → ℕ → Start → List Entry → List (List PageMsg) → Type 0
+IsStoredIf contents false seed start es took = Unit {0}
+IsStoredIf {F} contents true seed start es took = (opened : F) × (closed : F) × (begins : RecordStart) × (begins.start ≡ start) × (begins.seed ≡ seed) × (begins.first ≡ contents opened) × IsStored begins es took (contents closed)
+
 -- A fault leaves the output as it was, unless the output failed, or the run was printed whole and its record isn't.
 abbrev pub FaultKeeps : MemberFault → Type 0 → Option (List ℕ) → Option (List ℕ) → Type 0
 FaultKeeps f Printed before after = (f ≡ Script Output) ⊎ ((f ≡ Record) × Printed) ⊎ Keeps before after
 
--- A member with these options ran to its end over its own wire, with a key if they name a file of one, and its producers drew lines of its input, if that is known.
+-- A member with these options ran to its end over its own wire, with a key if they name a file of one and a new seal by it, and its producers drew lines of its
+-- input, if that is known.
 -- What was printed is what its page workers took: all that its journal gave.
 pub record PrintsWholeRun (options : NodeOptions) (input before after : Option (List ℕ)) : Type 0 where
   pub key : Option (List ℕ)
   pub keyed : is_some key ≡ is_some options.guard.key
+  pub seal : Option SealView
+  pub sealed : IsSealBy key options.config.me seal
   pub node : NodeView (RestedView (GuardView UdpView)) ClockView
   pub taps : List TapView
   pub pens : List PenView
-  pub new : IsNewStation options.config options.stay None (new_rested (guarded_wire options.addresses.items options.guard key)) node taps pens
+  pub new : IsNewStation options.config options.stay options.guard.most_missing None (new_rested (guarded_wire options.addresses.items options.guard seal)) node taps pens
   pub dealt : List (List (List ℕ))
   pub lines : IfSome input (λ text. dealt ≡ dealt_of (lines_of text))
   pub took : List (List PageMsg)
   pub whole : IsWholeRun member_calls options.turns dealt node took
   pub printed : Appends before after (taken_text whole.host.last.journal.start.config.me took)
+
+-- and its key is all of the file that its options name, if they name one, and its record is stored, if they name a file for that
+pub record RecordsWholeRun {F : Type 0} (contents remaining : F → Option (List ℕ)) (options : NodeOptions) (input before after : Option (List ℕ)) : Type 0 where
+  pub run : PrintsWholeRun options input before after
+  pub read : IsKeyRead remaining options.guard.key run.key
+  pub stored : IsStoredIf contents (is_some options.«record») options.seed run.node.journal.start run.whole.host.last.journal.entries run.took

@@ -37,7 +37,7 @@ pub use fault::MemberFault;
 pub use joining::{join_pens, settle_lanes};
 pub use noting::{Noting, noted_call, told_with};
 pub use pens::{Waking, send_stroke, share_waker, wake};
-pub use recording::{beginning_of, end_record, open_record};
+pub use recording::{Recorded, beginning_of, end_record, open_record};
 pub use replying::print_reply;
 pub use running::{run_node, run_station};
 pub use station::{Ran, Station, host_if};

@@ -1,6 +1,9 @@
 //! A member's record: its file, how it begins and how it ends.
 
-ghost use Rattle.std.specs.Prelude.{◌≡◌, length, vec_len, IfOk};
+ghost use Rattle.std.specs.Prelude.{◌≡◌, true, is_some, IfOk};
+ghost use Rattle.srm_record.specs.Begun.{IsRecorded};
+ghost use Rattle.srm_record.specs.Takes.{lent};
+ghost use Rattle.srm_member.specs.TakenText.{lists_of};
 
 use crate::fault::MemberFault;
 use srm_agent::Entry;
@@ -9,7 +12,7 @@ use srm_names::{PAGES, PageMsg};
 use srm_node::Worked;
 use srm_options::NodeOptions;
 use srm_record::{Ended, Written};
-use srm_world::{Journal, Past};
+use srm_world::{History, Past};
 use std::alloc::{AllocError, Global};
 use std::fs::{OpenFile, OpenOptions};
 use std::io::{ErrorKind, Write};
@@ -23,10 +26,9 @@ const MODE: u32 = 0o600;
 
 /// Makes the file of a member's record, if its options name one. Returns `None` if they name none. Fails with [`MemberFault::Record`] if the file can't be made, as
 /// when there is one with this path, and if out of memory.
-pub fn open_record<R: Files>(
-    rt: &R,
-    options: &NodeOptions,
-) -> Result<Option<R::File>, MemberFault> {
+pub fn open_record<R: Files>(rt: &R, options: &NodeOptions) -> Result<Option<R::File>, MemberFault>
+    ensures { IfOk result (λ file. is_some file ≡ is_some options.now.«record») }
+{
     let Some(path) = &options.record else {
         return Ok(None);
     };
@@ -66,21 +68,38 @@ fn wall_micros<R: time::Clock>(rt: &R) -> u64 {
     }
 }
 
-/// Ends a member's record with what its page workers took, by page slot, and asks the system to store it. Returns whether the file has the whole record; true if there is
-/// no file. It hasn't if there are more workers than page slots. Fails if out of memory for a list of the workers' lists; the file has a front of the record then.
+/// How a member's record ended.
+#[derive(Drop)]
+pub struct Recorded<F: Write + Drop> {
+    /// Whether the file has the whole record, and the system says that it stored it; true if there is no file.
+    pub whole: bool,
+    /// The file, if there is one; `None` too if there are more workers than page slots.
+    pub file: Option<F>,
+}
+
+/// Ends a member's record with what its page workers took, by page slot, and asks the system to store it. Returns the file, if there is one, and whether it has the whole record: how the
+/// member began, each call of its journal, what was taken, and that this is all. It hasn't if there are more workers than page slots. Fails if out of memory for a list of the workers'
+/// lists; the file has a front of the record then.
+#[tactic(auto, using(crate::proofs::Storing::recorded_as))]
 pub fn end_record<F: Write + OpenFile + Drop, P: Past<Entry> + Drop>(
     alloc: Global,
-    journal: Journal<Written<F, P>>,
+    history: History<Written<F, P>>,
     worked: &[Worked],
-) -> Result<bool, AllocError> {
-    let (_, past) = journal.into_parts();
+) -> Result<Recorded<F>, AllocError>
+    ensures { IfOk result (λ r. r.whole ≡ true → IsRecorded F.contents history.begins history.journal.entries (lists_of worked.now) r.file) }
+{
+    let (_, past) = history.into_parts();
     let taken = lists_of(alloc, worked)?;
     // A record has at most one list of each page slot.
     if taken.len() > usize::from(PAGES) {
-        return Ok(false);
+        return Ok(Recorded {
+            whole: false,
+            file: None,
+        });
     }
     let Ended { whole, file, .. } = past.end(taken.as_slice());
-    Ok(whole && is_stored(&file))
+    let whole = whole && is_stored(&file);
+    Ok(Recorded { whole, file })
 }
 
 fn is_stored<F: OpenFile>(file: &Option<F>) -> bool {
@@ -91,8 +110,9 @@ fn is_stored<F: OpenFile>(file: &Option<F>) -> bool {
 }
 
 // What each worker took.
+#[tactic(auto, using(crate::proofs::Storing::lent_more))]
 fn lists_of<'a>(alloc: Global, worked: &'a [Worked]) -> Result<Vec<&'a [PageMsg]>, AllocError>
-    ensures { IfOk result (λ lists. vec_len lists ≡ length worked.now) }
+    ensures { IfOk result (λ lists. lent lists.items ≡ lists_of worked.now) }
 {
     let mut lists = Vec::new(alloc);
     for worker in worked {

@@ -1,29 +1,29 @@
 //! A member from its options to its end.
 
-ghost use Rattle.std.specs.Prelude.{◌≡◌, ◌≤◌, ◌⊎◌, map, IfErr, OnOk};
+ghost use Rattle.std.specs.Prelude.{◌≡◌, ◌≤◌, ◌⊎◌, Some, is_some, map, IfErr, IfOk, IfSome, MatchOption, OnOk};
 ghost use Rattle.srm_node.specs.Calls.{calls_of};
 ghost use Rattle.srm_udp.specs.Clocks.{NeverFalls};
 ghost use Rattle.srm_script.specs.declared.status.TheConstants.{WIRE_FAILED, RAN_OUT};
 ghost use Rattle.srm_member.specs.Statuses.{IsStatus};
 ghost use Rattle.srm_member.specs.Stations.{HasNewEnds};
 ghost use Rattle.std.specs.Io.KnownBytes.{Keeps};
-ghost use Rattle.srm_member.specs.MemberRuns.{FaultKeeps, PrintsRun, PrintsWholeRun};
+ghost use Rattle.srm_member.specs.MemberRuns.{FaultKeeps, PrintsRun, PrintsWholeRun, RecordsWholeRun, RunsRecorded};
 
 use crate::dealing::deal;
 use crate::fault::MemberFault;
 use crate::joining::{join_pens, settle_lanes};
 use crate::noting::{Noting, noted_call};
 use crate::printing::print_taken;
-use crate::recording::{end_record, open_record};
+use crate::recording::{Recorded, end_record, open_record};
 use crate::station::{Ran, Station};
 use bytes::Bytes;
 use srm_agent::Entry;
-use srm_guarded::read_key;
+use srm_guarded::{read_key, seal_by};
 use srm_node::{Hosted, Wire};
 use srm_options::NodeOptions;
 use srm_record::Written;
 use srm_script::read_input;
-use srm_world::Past;
+use srm_world::{Forgotten, Past};
 use std::alloc::Global;
 use std::fs::OpenFile;
 use std::io::{Read, Write};
@@ -51,7 +51,7 @@ where
     R: Net + Files + time::Clock + Threads + Wait + AllocGlobal + Copy + Send + Drop + 'static,
     ensures ends { IsStatus result }
     ensures greatest { result ≤ RAN_OUT }
-    ensures whole { result ≡ 0 → PrintsWholeRun options (I.remaining reader.old) (O.contents out.old) (O.contents out.new) }
+    ensures whole { result ≡ 0 → RecordsWholeRun R.File.contents R.File.remaining options (I.remaining reader.old) (O.contents out.old) (O.contents out.new) }
     ensures nothing { (result ≡ WIRE_FAILED) ⊎ (result ≡ RAN_OUT) → Keeps (O.contents out.old) (O.contents out.new) }
 {
     let alloc = rt.alloc();
@@ -70,7 +70,7 @@ fn run<R, I: Read, O: Write>(
 ) -> Result<(), MemberFault>
 where
     R: Net + Files + time::Clock + Threads + Wait + Copy + Send + Drop + 'static,
-    ensures whole { OnOk result (PrintsWholeRun options (I.remaining reader.old) (O.contents out.old) (O.contents out.new)) }
+    ensures whole { OnOk result (RecordsWholeRun R.File.contents R.File.remaining options (I.remaining reader.old) (O.contents out.old) (O.contents out.new)) }
     ensures nothing { IfErr result (λ fault. FaultKeeps fault (PrintsWholeRun options (I.remaining reader.old) (O.contents out.old) (O.contents out.new)) (O.contents out.old) (O.contents out.new)) }
 {
     let key = read_key(rt, alloc, &options.guard)?;
@@ -79,8 +79,12 @@ where
     drop(input);
     let turns = options.turns;
     let record = open_record(rt, &options)?;
-    let (station, noting) = Station::bind_noting(rt, alloc, options, key, record)?;
-    run_noting(rt, alloc, station, dealt, turns, &noting, out)
+    let seal = seal_by(rt, alloc, key, options.config.me())?;
+    let (station, noting) = Station::bind(rt, alloc, options, seal, record, Forgotten::new())?;
+    match run_noting(rt, alloc, station, dealt, turns, &noting, out) {
+        Ok(_) => Ok(()),
+        Err(fault) => Err(fault),
+    }
 }
 
 // Runs a station as `run_station` does, and tells which call of its wire failed, if that is noted.
@@ -93,7 +97,7 @@ fn run_noting<R, X, F, P, O>(
     turns: u64,
     noting: &Noting,
     out: &mut O,
-) -> Result<(), MemberFault>
+) -> Result<Option<F>, MemberFault>
 where
     R: time::Clock + Threads + Wait + Copy + Send + Drop + 'static,
     X: Wire + Drop,
@@ -101,16 +105,17 @@ where
     P: Past<Entry> + Drop,
     O: Write,
     requires { HasNewEnds station.node.view station.taps.items station.pens.items }
-    ensures whole { OnOk result (PrintsRun (calls_of NeverFalls X.receives X.sends X.pauses) turns (map (λ bodies. bodies.items) dealt.items) station.node.view (O.contents out.old) (O.contents out.new)) }
+    ensures whole { IfOk result (λ file. RunsRecorded F.contents (calls_of NeverFalls X.receives X.sends X.pauses) turns (map (λ bodies. bodies.items) dealt.items) station.node.view station.node.begins file (O.contents out.old) (O.contents out.new)) }
     ensures nothing { IfErr result (λ fault. FaultKeeps fault (PrintsRun (calls_of NeverFalls X.receives X.sends X.pauses) turns (map (λ bodies. bodies.items) dealt.items) station.node.view (O.contents out.old) (O.contents out.new)) (O.contents out.old) (O.contents out.new)) }
 {
     match run_station(rt, alloc, station, dealt, turns, out) {
-        Ok(()) => Ok(()),
+        Ok(file) => Ok(file),
         Err(fault) => Err(fault.with_call(noted_call(noting))),
     }
 }
 
-/// Runs a new station to its end, and prints what its page workers took. Its k-th producer draws the k-th list of bodies.
+/// Runs a new station to its end, and prints what its page workers took. Its k-th producer draws the k-th list of bodies. Returns the file of its record, if it has one, which has all of it:
+/// how the member began, each call of its journal, what its page workers took, and that this is all.
 ///
 /// `turns` is the most turns of the node. Fails as [`Station::run`] does, with what ended the run ([`MemberFault::of_whole_run`]), with
 /// [`ScriptFault::Memory`](srm_script::ScriptFault) before it prints, with [`ScriptFault::Output`](srm_script::ScriptFault) after a prefix of the text, or with
@@ -124,7 +129,7 @@ pub fn run_station<R, X, F, P, O>(
     dealt: Vec<Vec<Bytes>>,
     turns: u64,
     out: &mut O,
-) -> Result<(), MemberFault>
+) -> Result<Option<F>, MemberFault>
 where
     R: time::Clock + Threads + Wait + Copy + Send + Drop + 'static,
     X: Wire + Drop,
@@ -132,18 +137,19 @@ where
     P: Past<Entry> + Drop,
     O: Write,
     requires { HasNewEnds station.node.view station.taps.items station.pens.items }
-    ensures whole { OnOk result (PrintsRun (calls_of NeverFalls X.receives X.sends X.pauses) turns (map (λ bodies. bodies.items) dealt.items) station.node.view (O.contents out.old) (O.contents out.new)) }
+    ensures whole { IfOk result (λ file. RunsRecorded F.contents (calls_of NeverFalls X.receives X.sends X.pauses) turns (map (λ bodies. bodies.items) dealt.items) station.node.view station.node.begins file (O.contents out.old) (O.contents out.new)) }
     ensures nothing { IfErr result (λ fault. FaultKeeps fault (PrintsRun (calls_of NeverFalls X.receives X.sends X.pauses) turns (map (λ bodies. bodies.items) dealt.items) station.node.view (O.contents out.old) (O.contents out.new)) (O.contents out.old) (O.contents out.new)) }
 {
     let Ran { hosted, ends, pens } = station.run_whole(rt, alloc, dealt, turns)?;
     let Hosted {
-        journal,
+        history,
         feeds,
         worked,
         end,
+        ..
     } = hosted;
-    let me = journal.start().config.me();
-    let is_recorded = end_record(alloc, journal, worked.as_slice())?;
+    let me = history.start().config.me();
+    let Recorded { whole, file } = end_record(alloc, history, worked.as_slice())?;
     match MemberFault::of_whole_run(end, worked.as_slice()) {
         Some(fault) => Err(fault),
         None => {
@@ -151,8 +157,8 @@ where
             settle_lanes(feeds, worked);
             let mut well = ends.well;
             join_pens(&mut well, pens);
-            if is_recorded {
-                Ok(())
+            if whole {
+                Ok(file)
             } else {
                 Err(MemberFault::Record)
             }

@@ -13,7 +13,7 @@ ghost use Rattle.srm_guarded.specs.Guarding.{guarded_wire};
 ghost use Rattle.srm_member.specs.Sinks.{NeverStops};
 ghost use Rattle.srm_member.specs.declared.sink.Unseen.{Unseen};
 ghost use Rattle.srm_timers.specs.Seeds.{words_of};
-ghost use Rattle.srm_member.specs.Stations.{AreNewTaps, IsNewStation};
+ghost use Rattle.srm_member.specs.Stations.{AreNewTaps, BeginsIn, IsNewStation};
 ghost use Rattle.srm_script.specs.declared.fault.ScriptFault.TheVariants.{Memory};
 ghost use Rattle.srm_member.specs.declared.fault.MemberFault.TheVariants.{Script};
 ghost use Rattle.srm_member.specs.Statuses.{fault_of_binding_at};
@@ -26,8 +26,8 @@ use crate::recording::beginning_of;
 use crate::sink::{Unseen, sinks};
 use bytes::Bytes;
 use srm_agent::{Config, Entry};
-use srm_guard::{Guard, Key};
-use srm_guarded::{Guarded, Published, bind_guarded};
+use srm_guard::{Guard, Seal};
+use srm_guarded::{Guarded, bind_guarded};
 use srm_names::PageMsg;
 use srm_node::{Hosted, Node, NodeEnds, PageSink, host_with_ends};
 use srm_options::NodeOptions;
@@ -38,7 +38,7 @@ use srm_script::ScriptFault;
 use srm_timers::Pcg;
 use srm_udp::{Rested, SystemClock, UdpWire};
 use srm_wire::Wire;
-use srm_world::{Forgotten, Past};
+use srm_world::Past;
 use std::alloc::{AllocError, Global};
 use std::io::Write;
 use std::net::{Net, SocketAddr};
@@ -64,54 +64,31 @@ pub struct Station<
     pub waker: Waking,
 }
 
-impl<R: time::Clock + Copy + Drop, F: Write + Drop> Station<
+impl<R: time::Clock + Copy + Drop, F: Write + Drop, P: Past<Entry> + Drop> Station<
     R,
     Rested<R, Guard<UdpWire>>,
-    Written<F, Published<Forgotten<Entry>>>,
+    Written<F, P>,
 > {
-    /// Binds a member to its own address, with the guard that its options ask for, and `key` as [`read_key`](srm_guarded::read_key) returns it for them: without it
-    /// nothing is tagged or checked, even if the options name a key file. The node keeps no entry, and leaves `stay` microseconds after its start. Its record goes to
-    /// `record`, if there is a file, whatever path the options name. `linger`, `live` and `turns` aren't used.
+    /// Binds a member to its own address, with the guard that its options ask for, and `seal` as [`seal_by`](srm_guarded::seal_by) makes it of their key: without
+    /// it nothing is tagged or checked, even if the options name a key file. The node's entries go to `file`, if there is one, whatever path the options name, and then to `past`, which is empty. The node leaves `stay` microseconds after its start, and lets no more be missing than
+    /// `guard.most_missing`. `linger`, `live` and `turns` aren't used.
     ///
-    /// Fails with [`MemberFault::Wire`] if the address can't be bound, or with [`MemberFault::Binding`] and the cause if `verbose` is set; with `Wire` if the clock
-    /// can't be read; and if out of memory.
+    /// Returns the station, and where its wire notes its first failure if `verbose` is set. Fails with [`MemberFault::Wire`] if the address can't be bound, or with
+    /// [`MemberFault::Binding`] and the cause if `verbose` is set; with `Wire` if the clock can't be read; and if out of memory.
     pub fn bind(
         rt: &R,
         alloc: Global,
         options: NodeOptions,
-        key: Option<Key>,
-        record: Option<F>,
-    ) -> Result<
-        Station<R, Rested<R, Guard<UdpWire>>, Written<F, Published<Forgotten<Entry>>>>,
-        MemberFault,
-    >
+        seal: Option<Seal>,
+        file: Option<F>,
+        past: P,
+    ) -> Result<(Station<R, Rested<R, Guard<UdpWire>>, Written<F, P>>, Noting), MemberFault>
     where
         R: Net,
-        ensures new { IfOk result (λ s. IsNewStation options.config options.stay None (new_rested (guarded_wire options.addresses.items options.guard key)) s.node.view s.taps.items s.pens.items) }
-        ensures words { IfOk result (λ s. s.node.words ≡ words_of options.seed) }
-    {
-        let (station, _) = Station::bind_noting(rt, alloc, options, key, record)?;
-        Ok(station)
-    }
-
-    /// Does what [`bind`](Station::bind) does, and returns where the wire notes its first failure too, if `verbose` is set. Fails as `bind` does.
-    pub(crate) fn bind_noting(
-        rt: &R,
-        alloc: Global,
-        options: NodeOptions,
-        key: Option<Key>,
-        record: Option<F>,
-    ) -> Result<
-        (
-            Station<R, Rested<R, Guard<UdpWire>>, Written<F, Published<Forgotten<Entry>>>>,
-            Noting,
-        ),
-        MemberFault,
-    >
-    where
-        R: Net,
-        ensures new { IfOk result (λ n. IsNewStation options.config options.stay None (new_rested (guarded_wire options.addresses.items options.guard key)) n.0.node.view n.0.taps.items n.0.pens.items) }
+        requires { P.appended past ≡ [] }
+        ensures new { IfOk result (λ n. IsNewStation options.config options.stay options.guard.most_missing None (new_rested (guarded_wire options.addresses.items options.guard seal)) n.0.node.view n.0.taps.items n.0.pens.items) }
         ensures words { IfOk result (λ n. n.0.node.words ≡ words_of options.seed) }
+        ensures begins { IfOk result (λ n. BeginsIn F.contents file options.seed n.0.node.view.journal.start n.0.node.begins) }
     {
         let beginning = beginning_of(rt, &options);
         let NodeOptions {
@@ -124,24 +101,23 @@ impl<R: time::Clock + Copy + Drop, F: Write + Drop> Station<
             ..
         } = options;
         let me = config.me();
+        let most = guard.most_missing;
         let told = if verbose {
             addresses.get(me.index()).copied()
         } else {
             None
         };
-        match bind_guarded(rt, alloc, config, &guard, key, addresses) {
+        match bind_guarded(rt, alloc, config, &guard, seal, addresses) {
             Ok(
                 Guarded {
                     wire,
                     waker,
-                    known,
                     failure,
                 },
             ) => {
                 let wire = Rested::new(*rt, wire);
-                let past = Published::new(alloc, Forgotten::new(), known);
-                let past = Written::new(alloc, record, beginning, past);
-                match Station::make(rt, alloc, config, seed, stay, wire, waker, past) {
+                let past = Written::new(alloc, file, beginning, past);
+                match Station::make(rt, alloc, config, seed, stay, most, wire, waker, past) {
                     Ok(station) => Ok((station, note_if(verbose, failure))),
                     Err(fault) => Err(fault),
                 }
@@ -163,7 +139,7 @@ fn binding_fault(told: Option<SocketAddr>, error: io::Error) -> MemberFault
 
 impl<R: time::Clock + Copy + Drop, X: Wire + Drop> Station<R, X> {
     /// Makes a member's station over a wire of the caller's, which sends as this member to this roster. No call of the wire has failed. Of the options it uses
-    /// `config`, `seed` and `stay`: the guard is not applied, since that is the wire's. No handle ends the wire's pauses.
+    /// `config`, `seed`, `stay` and `guard.most_missing`: the rest of the guard is not applied, since that is the wire's. No handle ends the wire's pauses.
     ///
     /// Fails with [`MemberFault::Wire`] if the clock can't be read, and with [`ScriptFault::Memory`](srm_script::ScriptFault) in [`MemberFault::Script`] if out of
     /// memory.
@@ -174,11 +150,13 @@ impl<R: time::Clock + Copy + Drop, X: Wire + Drop> Station<R, X> {
         wire: X,
     ) -> Result<Station<R, X>, MemberFault>
         requires { X.failure_count wire ≡ 0 }
-        ensures new { IfOk result (λ s. IsNewStation options.now.config options.now.stay (X.told wire) wire s.node.view s.taps.items s.pens.items) }
+        ensures new { IfOk result (λ s. IsNewStation options.now.config options.now.stay options.now.guard.most_missing (X.told wire) wire s.node.view s.taps.items s.pens.items) }
         ensures words { IfOk result (λ s. s.node.words ≡ words_of options.now.seed) }
     {
         let (config, seed, stay) = (options.config, options.seed, options.stay);
-        Station::make(rt, alloc, config, seed, stay, wire, None, Vec::new(alloc))
+        let most = options.guard.most_missing;
+        let past = Vec::new(alloc);
+        Station::make(rt, alloc, config, seed, stay, most, wire, None, past)
     }
 }
 
@@ -203,6 +181,7 @@ impl<R: time::Clock + Copy + Drop, X: Wire + Drop, P: Past<Entry> + Drop> Statio
         ensures hosts { IfOk result (λ h. (sinks : List Unseen) × (length sinks ≡ PAGES) × MatchResult h.end (λ _. Hosts (calls_of NeverFalls X.receives X.sends X.pauses) (kinds_of L.appended L.is_refused NeverStops) self.node.view (starts_of self.taps.items sinks) turns h)
             (λ fault. (all : Bool) × HostFails (calls_of NeverFalls X.receives X.sends X.pauses) (kinds_of L.appended L.is_refused NeverStops) all self.node.view (starts_of self.taps.items sinks) turns fault h)) }
         ensures lanes { IfOk result (λ h. IfOk h.end (λ _. AreEndsOfLanes self.node.view.feeds self.taps.items → AreEndsOfLanes h.feeds.items (map (λ w. w.tap) h.worked.items))) }
+        ensures begins { IfOk result (λ h. h.history.begins ≡ self.node.begins) }
         ensures memory { IfErr result (λ fault. fault ≡ Script Memory) }
     {
         let ran = self.run_whole(rt, alloc, dealt, turns)?;
@@ -226,6 +205,7 @@ impl<R: time::Clock + Copy + Drop, X: Wire + Drop, P: Past<Entry> + Drop> Statio
         ensures lanes { IfOk result (λ r. IfOk r.hosted.end (λ _. AreEndsOfLanes self.node.view.feeds self.taps.items → AreEndsOfLanes r.hosted.feeds.items (map (λ w. w.tap) r.hosted.worked.items))) }
         ensures well { IfOk result (λ r. IfOk r.hosted.end (λ _. SameWell self.node.view.well r.ends.well)) }
         ensures pens { IfOk result (λ r. PensDrew (pens_with self.pens.items (map (λ bodies. bodies.items) dealt.items)) r.pens.items) }
+        ensures begins { IfOk result (λ r. r.hosted.history.begins ≡ self.node.begins) }
         ensures memory { IfErr result (λ fault. fault ≡ Script Memory) }
     {
         match Crew::new(alloc, share_waker(&self.waker)) {
@@ -254,6 +234,7 @@ impl<R: time::Clock + Copy + Drop, X: Wire + Drop, P: Past<Entry> + Drop> Statio
         ensures lanes { IfOk result (λ r. IfOk r.hosted.end (λ _. AreEndsOfLanes self.node.view.feeds self.taps.items → AreEndsOfLanes r.hosted.feeds.items (map (λ w. w.tap) r.hosted.worked.items))) }
         ensures well { IfOk result (λ r. IfOk r.hosted.end (λ _. SameWell self.node.view.well r.ends.well)) }
         ensures pens { IfOk result (λ r. PensDrew (pens_with self.pens.items (map (λ bodies. bodies.items) dealt.items)) r.pens.items) }
+        ensures begins { IfOk result (λ r. r.hosted.history.begins ≡ self.node.begins) }
         ensures memory { IfErr result (λ fault. fault ≡ Script Memory) }
     {
         let Station {
@@ -285,48 +266,24 @@ pub struct Ran<P: Past<Entry> + Drop = Vec<Entry>, L: Past<PageMsg> + Drop = Vec
 }
 
 impl<R: time::Clock + Copy + Drop, X: Wire + Drop, P: Past<Entry> + Drop> Station<R, X, P> {
-    /// Does what [`over`](Station::over) does, with a history of the caller's, which is empty, and with the handle that ends the wire's pauses. Fails as `over`
-    /// does.
-    pub fn with_past(
-        rt: &R,
-        alloc: Global,
-        options: &NodeOptions,
-        wire: X,
-        waker: Waking,
-        past: P,
-    ) -> Result<Station<R, X, P>, MemberFault>
-        requires wire { X.failure_count wire ≡ 0 }
-        requires past { P.appended past ≡ [] }
-        ensures new { IfOk result (λ s. IsNewStation options.now.config options.now.stay (X.told wire) wire s.node.view s.taps.items s.pens.items) }
-        ensures words { IfOk result (λ s. s.node.words ≡ words_of options.now.seed) }
-    {
-        Station::make(
-            rt,
-            alloc,
-            options.config,
-            options.seed,
-            options.stay,
-            wire,
-            waker,
-            past,
-        )
-    }
-
-    // Makes the station of a member with these settings and this history. It leaves `stay` microseconds after its start.
+    // Makes the station of a member with these settings and this history. It leaves `stay` microseconds after its start, and lets no more than `most_missing` be missing.
     fn make(
         rt: &R,
         alloc: Global,
         config: Config,
         seed: u64,
         stay: u64,
+        most_missing: Option<u32>,
         wire: X,
         waker: Waking,
         past: P,
     ) -> Result<Station<R, X, P>, MemberFault>
         requires wire { X.failure_count wire ≡ 0 }
         requires past { P.appended past ≡ [] }
-        ensures new { IfOk result (λ s. IsNewStation config stay (X.told wire) wire s.node.view s.taps.items s.pens.items) }
+        ensures new { IfOk result (λ s. IsNewStation config stay most_missing (X.told wire) wire s.node.view s.taps.items s.pens.items) }
         ensures words { IfOk result (λ s. s.node.words ≡ words_of seed) }
+        ensures begins { IfOk result (λ s. s.node.begins ≡ P.begins past) }
+        ensures made { IfOk result (λ s. s.node.view.journal.start.made ≡ 0) }
     {
         let Parts {
             clock,
@@ -338,6 +295,7 @@ impl<R: time::Clock + Copy + Drop, X: Wire + Drop, P: Past<Entry> + Drop> Statio
         let words = Pcg::new(seed);
         let mut node = Node::with_past(alloc, config, words, wire, clock, feeds, well, past)?;
         node.ask_leave(stay);
+        node.limit_missing(most_missing);
         Ok(Station {
             node,
             taps,
@@ -359,6 +317,7 @@ struct Parts<R: time::Clock + Drop> {
 
 /// The clock and the ends of a station that did nothing yet. Fails if the clock can't be read or memory ran out.
 fn make_parts<R: time::Clock + Copy + Drop>(rt: &R, alloc: Global) -> Result<Parts<R>, MemberFault>
+    ensures clock { IfOk result (λ e. e.clock ≡ record { last = None }) }
     ensures feeds { IfOk result (λ e. AreNewFeeds e.feeds.items) }
     ensures taps { IfOk result (λ e. length e.taps.items ≡ PAGES) }
     ensures lanes { IfOk result (λ e. AreEndsOfLanes e.feeds.items e.taps.items) }
@@ -426,6 +385,7 @@ where
     ensures lanes { IfSome result (λ r. IfOk r.0.end (λ _. AreEndsOfLanes node.view.feeds taps.items → AreEndsOfLanes r.0.feeds.items (map (λ w. w.tap) r.0.worked.items))) }
     ensures well { IfSome result (λ r. IfOk r.0.end (λ _. SameWell node.view.well r.1.well)) }
     ensures control { IfSome result (λ r. IfOk r.0.end (λ _. SameLines node.view.control r.1.commands)) }
+    ensures begins { IfSome result (λ r. r.0.history.begins ≡ node.begins) }
 {
     if !started {
         return None;
