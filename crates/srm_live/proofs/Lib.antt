@@ -1,4 +1,5 @@
 pub mod Askings
+pub mod Claiming
 pub mod Codes
 pub mod LiveLines
 pub mod LiveMembers

@@ -6,7 +6,8 @@ use Rattle.srm_names.specs.declared.page_msg.PageMsg.{PageMsg}
 use Rattle.srm_pages.specs.Ends.{TapView, PenView}
 use Rattle.srm_control.specs.Ends.{ControlView, new_commands}
 use Rattle.srm_udp.specs.Resting.{new_rested}
-use Rattle.srm_guarded.specs.Guarding.{guarded_wire}
+use Rattle.srm_guard.specs.Seals.{SealView}
+use Rattle.srm_guarded.specs.Guarding.{IsSealBy, guarded_wire}
 use Rattle.srm_options.specs.declared.node_options.NodeOptions.{NodeOptions}
 use Rattle.srm_node.specs.Calls.{Calls}
 use Rattle.srm_node.specs.Nodes.{NodeState}
@@ -15,9 +16,11 @@ use Rattle.srm_script.specs.declared.fault.ScriptFault.TheVariants.{StandardInpu
 use Rattle.srm_member.specs.declared.fault.MemberFault.{MemberFault}
 use Rattle.srm_member.specs.declared.fault.MemberFault.TheVariants.{Script}
 use Rattle.srm_member.specs.Statuses.{IsToldOf, fault_of_live, fault_with_call, status_of_member}
-use Rattle.srm_member.proofs.MemberRuns.{status_of_some, status_of_most}
-use Rattle.srm_member.specs.MemberRuns.{member_calls}
-use Rattle.srm_member.specs.Stations.{IsNewStation}
+use Rattle.srm_world.specs.RecordStarts.{RecordStart}
+use Rattle.srm_record.specs.Begun.{IsRecorded}
+use Rattle.srm_member.proofs.MemberRuns.{status_of_some, status_of_most, stored_if}
+use Rattle.srm_member.specs.MemberRuns.{IsStoredIf, member_calls}
+use Rattle.srm_member.specs.Stations.{BeginsIn, IsNewStation}
 use Rattle.srm_member.specs.WholeRuns.{SawEach}
 use Rattle.srm_live.specs.declared.live_fault.LiveFault.{LiveFault}
 use Rattle.srm_live.specs.declared.live_fault.LiveFault.TheVariants.{Member, WasBefore}
@@ -64,23 +67,34 @@ pub whole_end : (run told : Option MemberFault) (noted : Option ScriptFault) (wa
 whole_end run told noted was_before result of is whole = told_none run told of (live_none told noted (end_none (fault_of_live told noted) was_before (subst IsWholeEnd is whole)))
 
 -- the node that ran is the one that got a control
-pub lives_from : {W X C S : Type 0} (calls : Calls X C) (Sees : S → ℕ → PageMsg → Bool → S → Type 0) (turns : ℕ) (known : Option (List ℕ)) (old new : NodeState W X C) (control : ControlView) (sinks : List S)
+pub lives_from : {W X C S F : Type 0} (calls : Calls X C) (Sees : S → ℕ → PageMsg → Bool → S → Type 0) (contents : F → Option (List ℕ)) (turns : ℕ) (known : Option (List ℕ)) (old new : NodeState W X C) (control : ControlView) (sinks : List S)
     → new ≡ record old { view = record old.view { control = Some (new_commands control.out control.back) } }
-    → ((took : List (List PageMsg)) × IsWholeLiveRun calls turns known new.view took × SawEach Sees sinks took)
-    → LivesFrom calls Sees turns known old.view sinks
-lives_from {W} {X} {C} calls Sees turns known old new control sinks is (took, whole, saw) = record {
-  commands = new_commands control.out control.back;
-  fresh = refl;
-  took = took;
-  whole = subst (λ (n : NodeState W X C). IsWholeLiveRun calls turns known n.view took) is whole;
-  saw = saw;
-}
+    → ((took : List (List PageMsg)) × (whole : IsWholeLiveRun calls turns known new.view took) × SawEach Sees sinks took × (file : Option F) × IsRecorded contents new.begins whole.host.last.journal.entries took file)
+    → LivesFrom calls Sees contents turns known old.view old.begins sinks
+lives_from {W} {X} {C} calls Sees contents turns known old new control sinks is (took, whole, saw, file, recorded) =
+    let both : (w : IsWholeLiveRun calls turns known (record old.view { control = Some (new_commands control.out control.back) }) took) × IsRecorded contents old.begins w.host.last.journal.entries took file =
+    subst (λ (n : NodeState W X C). (w : IsWholeLiveRun calls turns known n.view took) × IsRecorded contents n.begins w.host.last.journal.entries took file) is (whole, recorded) in
+    record { commands = new_commands control.out control.back; fresh = refl; took = took; whole = both.0; saw = saw; file = file; recorded = both.1 }
 
 -- and it was that of a new station
-pub lives_with : (options : NodeOptions) (known : Option (List ℕ)) (sinks : List PrintingView) (key : Option (List ℕ)) (node : MemberNode) (taps : List TapView) (pens : List PenView)
-    → is_some key ≡ is_some options.guard.key → IsNewStation options.config 0 None (new_rested (guarded_wire options.addresses.items options.guard key)) node taps pens → LivesFrom member_calls PrintsLine options.turns known node sinks
-    → LivesWith options known sinks
-lives_with options known sinks key node taps pens keyed new lives = record { key = key; keyed = keyed; node = node; taps = taps; pens = pens; new = new; lives = lives }
+pub lives_with : {F : Type 0} (contents : F → Option (List ℕ)) (options : NodeOptions) (known : Option (List ℕ)) (sinks : List PrintingView) (key : Option (List ℕ)) (seal : Option SealView) (node : MemberNode) (taps : List TapView) (pens : List PenView) (opened : Option F) (begins : Option RecordStart)
+    → is_some key ≡ is_some options.guard.key → IsSealBy key options.config.me seal → IsNewStation options.config 0 options.guard.most_missing None (new_rested (guarded_wire options.addresses.items options.guard seal)) node taps pens → is_some opened ≡ is_some options.«record» → BeginsIn contents opened options.seed node.journal.start begins
+    → LivesFrom member_calls PrintsLine contents options.turns known node begins sinks → LivesWith contents options known sinks
+lives_with contents options known sinks key seal node taps pens opened begins keyed sealed new asked began lives = record {
+  key = key;
+  keyed = keyed;
+  seal = seal;
+  sealed = sealed;
+  node = node;
+  taps = taps;
+  pens = pens;
+  new = new;
+  begins = begins;
+  lives = lives;
+  stored =
+      subst (λ (b : Bool). IsStoredIf contents b options.seed node.journal.start lives.whole.host.last.journal.entries lives.took) asked
+      (stored_if contents opened lives.file options.seed node.journal.start begins lives.whole.host.last.journal.entries lives.took began lives.recorded);
+}
 
-pub lives_whole : (options : NodeOptions) (known : Option (List ℕ)) (sinks : List PrintingView) → length sinks ≡ PAGES → All (λ (s : PrintingView). s ≡ new_printing options.config.me) sinks → LivesWith options known sinks → LivesWhole options known
-lives_whole options known sinks count new with_these = record { sinks = sinks; count = count; new = new; with_these = with_these }
+pub lives_whole : {F : Type 0} (contents : F → Option (List ℕ)) (options : NodeOptions) (known : Option (List ℕ)) (sinks : List PrintingView) → length sinks ≡ PAGES → All (λ (s : PrintingView). s ≡ new_printing options.config.me) sinks → LivesWith contents options known sinks → LivesWhole contents options known
+lives_whole contents options known sinks count new with_these = record { sinks = sinks; count = count; new = new; with_these = with_these }

@@ -16,6 +16,9 @@ use Rattle.srm_node.specs.declared.fault.NodeFault.{NodeFault}
 use Rattle.srm_node.specs.declared.hosting.Hosted.{Hosted}
 use Rattle.srm_node.specs.declared.hosting.NodeEnds.{NodeEnds}
 use Rattle.srm_node.specs.declared.working.Worked.{Worked}
+use Rattle.srm_world.specs.Traces.{Journal}
+use Rattle.srm_world.specs.RecordStarts.{RecordStart}
+use Rattle.srm_record.specs.Begun.{IsRecorded}
 use Rattle.srm_node.specs.Calls.{Calls}
 use Rattle.srm_control.specs.declared.command.PageCommand.{PageCommand}
 use Rattle.srm_control.specs.declared.command.PageAnswer.{PageAnswer}
@@ -164,23 +167,26 @@ has_commands end lacks before after new none is same =
     let (c, after_is, out, back) = subst (λ o. SameLines o after) is (without_fault end lacks (SameLines before after) none same) in
     (c, after_is)
 
-pub live_run : {P L S X C : Type 0} (calls : Calls X C) (kinds : Kinds L S) (turns : ℕ) (node : NodeView X C) (taps : List TapView) (pens : List PenView) (control : ControlView) (sinks : List S) (left : NodeEnds) (h : Hosted P L) (lacks closed : Bool) (known : Option (List ℕ)) (first : PenView) (others : List PenView) (last : ControlView)
+pub live_run : {P L S X C F : Type 0} (calls : Calls X C) (kinds : Kinds L S) (turns : ℕ) (node : NodeView X C) (taps : List TapView) (pens : List PenView) (control : ControlView) (sinks : List S) (left : NodeEnds) (h : Hosted P L) (lacks closed : Bool) (known : Option (List ℕ)) (first : PenView) (others : List PenView) (last : ControlView) (contents : F → Option (List ℕ)) (begins : Option RecordStart) (file : Option F)
     → HasNewEnds node taps pens → (control ≡ new_control control.out control.back) × (node.control ≡ Some (new_commands control.out control.back)) → length sinks ≡ PAGES
     → MatchResult h.end (λ _. HostsWith calls kinds node (zip taps sinks) turns left h) (λ fault. (all : Bool) × HostFailsWith calls kinds all node (zip taps sinks) turns fault left h) → IfOk h.end (λ _. SameLines node.control left.commands)
     → closed ≡ list_all (λ (w : Worked L). list_any is_close (kinds.entries w.list)) h.worked.items → fault_of_lists (fault_of h.end lacks) closed ≡ None → TakePrefixes h.feeds.items (map (λ (w : Worked L). w.tap) h.worked.items)
     → HaveTyped known pens control first others last → IsReceivedOf left.well.received first → AllByRecursion (IsReceivedOf left.well.received) others → AreFirstOf left.commands last
-    → (took : List (List PageMsg)) × IsWholeLiveRun calls turns known node took × SawEach kinds.sees sinks took
-live_run {P} {L} calls kinds turns node taps pens control sinks left h lacks closed known first others last ends new count ran same closed_is none takes typed part parts heard =
+    → IsRecorded contents begins h.history.journal.entries (map (λ (w : Worked L). kinds.entries w.list) h.worked.items) file
+    → (took : List (List PageMsg)) × (whole : IsWholeLiveRun calls turns known node took) × SawEach kinds.sees sinks took × (last_file : Option F) × IsRecorded contents begins whole.host.last.journal.entries took last_file
+live_run {P} {L} calls kinds turns node taps pens control sinks left h lacks closed known first others last contents begins file ends new count ran same closed_is none takes typed part parts heard recorded =
     let no_fault = of_lists _ _ _ refl none in
     let host : HostsWith calls kinds node (zip taps sinks) turns left h = hosted_whole h.end lacks _ _ no_fault ran in
     let all : list_all (λ (w : Worked L). list_any is_close (kinds.entries w.list)) h.worked.items ≡ true = sym closed_is ∙ lists_closed _ _ _ refl none in
     let (c, commands_are) = has_commands h.end lacks node.control left.commands _ no_fault new.1 same in
     let drawn = receives_typed node taps pens known control first others last c left.well.received ends new.0 typed part parts (subst (λ o. AreFirstOf o last) commands_are heard) in
-    let (whole, well_is, control_is) = whole_host_ends calls kinds turns node taps pens sinks left h ends count host takes all in (
+    let (whole, well_is, control_is, journal_is) = whole_host_ends calls kinds turns node taps pens sinks left h ends count host takes all in (
       map (λ (w : Worked L). kinds.entries w.list) h.worked.items,
       record {
         host = whole;
         draws = subst (λ (v : WellView). ReceivesTyped known whole.last.control v.received) well_is (subst (λ o. ReceivesTyped known o left.well.received) (sym commands_are ∙ control_is) drawn);
       },
       saw_each kinds taps sinks h.worked.items ends.new_taps host.0.workers,
+      file,
+      subst (λ (j : Journal). IsRecorded contents begins j.entries (map (λ (w : Worked L). kinds.entries w.list) h.worked.items) file) journal_is recorded,
     )

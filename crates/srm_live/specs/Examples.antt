@@ -8,7 +8,8 @@ use Rattle.srm_live.specs.declared.typed.Typed.TheVariants.{Stroke, TooLong, Ord
 use Rattle.bstr.specs.Utf8.{pieces_from}
 use Rattle.srm_live.specs.Commands.{said_of, page_in}
 use Rattle.srm_live.specs.Readable.{readable_text}
-use Rattle.srm_live.specs.Needs.{asks_for_held}
+use Rattle.srm_live.specs.Claims.{claims_of, is_beyond}
+use Rattle.srm_codec.specs.declared.datagram.Datagram.TheVariants.{Session}
 use Rattle.srm_live.specs.declared.presence.Standing.TheVariants.{Here, Left, Silent}
 use Rattle.srm_live.specs.News.{news_of}
 use Rattle.srm_control.specs.declared.command.PageCommand.TheVariants as commands
@@ -131,14 +132,15 @@ an_escape_and_a_wild_byte_are_question_marks : readable_text (97 ∷ 0xC3 ∷ 0x
 unfolding pieces_from lib.Utf8.encode
 an_escape_and_a_wild_byte_are_question_marks = refl
 
--- WHO IS NEEDED
+-- AN EARLIER RUN
 
--- of these drawops one is held and one is missing
-one_of_two_is_held : asks_for_held (named (stream_on 1 first_page) 6 ∷ []) (named (stream_on 1 first_page) 5 ∷ named (stream_on 1 first_page) 6 ∷ []) ≡ true
-one_of_two_is_held = refl
+-- of rows of members 0 and 1, that of member 1 is its own
+the_own_rows : claims_of 1 (Session 0 5 false first_page (named (stream_on 0 first_page) 3 ∷ named (stream_on 1 first_page) 2 ∷ []) []) ≡ named (stream_on 1 first_page) 2 ∷ []
+the_own_rows = refl
 
-both_are_missing : asks_for_held (named (stream_on 1 first_page) 5 ∷ named (stream_on 1 first_page) 6 ∷ []) (named (stream_on 1 first_page) 5 ∷ named (stream_on 1 first_page) 6 ∷ []) ≡ false
-both_are_missing = refl
+-- and is above what a member knows that did nothing yet
+above_nothing : is_beyond [] (named (stream_on 1 first_page) 1) ≡ true
+above_nothing = refl
 
 -- NEWS
 

@@ -1,14 +1,15 @@
 pub mod Asking
 pub mod Commands
-pub mod Earlier
+pub mod Claims
 pub mod Examples
 pub mod LineExamples
+pub mod Lingering
+pub mod LingeringExamples
 pub mod LiveLines
 pub mod LiveRuns
 pub mod LiveMembers
 pub mod LiveStatuses
 pub mod MemberSets
-pub mod Needs
 pub mod News
 pub mod PageCodes
 pub mod PresenceExamples

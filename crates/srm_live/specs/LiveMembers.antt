@@ -7,12 +7,15 @@ use Rattle.srm_control.specs.Ends.{CommandsView, new_commands}
 use Rattle.srm_udp.specs.Clocks.{ClockView}
 use Rattle.srm_udp.specs.Resting.{RestedView, new_rested}
 use Rattle.srm_udp.specs.Udp.{UdpView}
+use Rattle.srm_guard.specs.Seals.{SealView}
 use Rattle.srm_guard.specs.Guards.{GuardView}
-use Rattle.srm_guarded.specs.Guarding.{guarded_wire}
+use Rattle.srm_guarded.specs.Guarding.{IsSealBy, guarded_wire}
 use Rattle.srm_options.specs.declared.node_options.NodeOptions.{NodeOptions}
 use Rattle.srm_node.specs.Calls.{Calls}
 use Rattle.srm_node.specs.Nodes.{NodeView}
-use Rattle.srm_member.specs.MemberRuns.{member_calls}
+use Rattle.srm_world.specs.RecordStarts.{RecordStart}
+use Rattle.srm_record.specs.Begun.{IsRecorded}
+use Rattle.srm_member.specs.MemberRuns.{IsStoredIf, member_calls}
 use Rattle.srm_member.specs.Stations.{IsNewStation}
 use Rattle.srm_member.specs.WholeRuns.{SawEach}
 use Rattle.srm_live.specs.LiveLines.{PrintingView, PrintsLine, new_printing}
@@ -21,28 +24,35 @@ use Rattle.srm_live.specs.LiveRuns.{IsWholeLiveRun}
 abbrev pub MemberNode : Type 0
 MemberNode = NodeView (RestedView (GuardView UdpView)) ClockView
 
--- A node got a control and ran to its end, as did its workers and the producer that drew what was typed. These sinks saw what the workers took.
-pub record LivesFrom {X C S : Type 0} (calls : Calls X C) (Sees : S → ℕ → PageMsg → Bool → S → Type 0) (turns : ℕ) (known : Option (List ℕ)) (node : NodeView X C) (sinks : List S) : Type 0 where
+-- A node got a control and ran to its end, as did its workers and the producer that drew what was typed. These sinks saw what the workers took. The file of its record, if it has one,
+-- has all of it.
+pub record LivesFrom {X C S F : Type 0} (calls : Calls X C) (Sees : S → ℕ → PageMsg → Bool → S → Type 0) (contents : F → Option (List ℕ)) (turns : ℕ) (known : Option (List ℕ)) (node : NodeView X C) (begins : Option RecordStart) (sinks : List S) : Type 0 where
   pub commands : CommandsView
   pub fresh : commands ≡ new_commands commands.out commands.back
   pub took : List (List PageMsg)
   pub whole : IsWholeLiveRun calls turns known (record node { control = Some commands }) took
   pub saw : SawEach Sees sinks took
+  pub file : Option F
+  pub recorded : IsRecorded contents begins whole.host.last.journal.entries took file
 
--- A member with these options ran so over its own wire, with a key if they name a file of one. It was to leave as soon as its producers were done, and was none before. Its
--- sinks passed on the lines of what they saw.
-pub record LivesWith (options : NodeOptions) (known : Option (List ℕ)) (sinks : List PrintingView) : Type 0 where
+-- A member with these options ran so over its own wire, with a key if they name a file of one and a new seal by it. It was to leave as soon as its producers were done, and was none before. Its
+-- sinks passed on the lines of what they saw. Its record is stored, if they name a file for it.
+pub record LivesWith {F : Type 0} (contents : F → Option (List ℕ)) (options : NodeOptions) (known : Option (List ℕ)) (sinks : List PrintingView) : Type 0 where
   pub key : Option (List ℕ)
   pub keyed : is_some key ≡ is_some options.guard.key
+  pub seal : Option SealView
+  pub sealed : IsSealBy key options.config.me seal
   pub node : MemberNode
   pub taps : List TapView
   pub pens : List PenView
-  pub new : IsNewStation options.config 0 None (new_rested (guarded_wire options.addresses.items options.guard key)) node taps pens
-  pub lives : LivesFrom member_calls PrintsLine options.turns known node sinks
+  pub new : IsNewStation options.config 0 options.guard.most_missing None (new_rested (guarded_wire options.addresses.items options.guard seal)) node taps pens
+  pub begins : Option RecordStart
+  pub lives : LivesFrom member_calls PrintsLine contents options.turns known node begins sinks
+  pub stored : IsStoredIf contents (is_some options.«record») options.seed node.journal.start lives.whole.host.last.journal.entries lives.took
 
 -- And its sinks, one for each page slot, had passed on nothing before.
-pub record LivesWhole (options : NodeOptions) (known : Option (List ℕ)) : Type 0 where
+pub record LivesWhole {F : Type 0} (contents : F → Option (List ℕ)) (options : NodeOptions) (known : Option (List ℕ)) : Type 0 where
   pub sinks : List PrintingView
   pub count : length sinks ≡ PAGES
   pub new : All (λ (s : PrintingView). s ≡ new_printing options.config.me) sinks
-  pub with_these : LivesWith options known sinks
+  pub with_these : LivesWith contents options known sinks

@@ -1,11 +1,13 @@
 //! Which pages have strokes, and which drawops a member misses, counted by stream.
 
 use crate::page_code::{code_of, page_of};
-use srm_names::{MEMBERS, Member, Name, PAGES, Page};
+use srm_agent::Agent;
+use srm_names::{MEMBERS, Member, PAGES, Page, Stream};
+use srm_timers::Words;
 use std::alloc::{AllocError, Global};
 use std::sync::atomic::{AtomicU64, AtomicUsize, Ordering};
 
-/// How many drawops of each stream a member misses. One thread counts, and any reads. Counts wrap at 2^64.
+/// How many drawops of each stream a member misses, by its page slots. One thread asks the member, and any reads.
 #[derive(Drop)]
 pub struct Holes {
     pages: Vec<PageHoles>,
@@ -14,7 +16,7 @@ pub struct Holes {
 /// How many drawops of each source a member misses on a page.
 #[derive(Drop)]
 pub struct PageHoles {
-    // The page as `code_of` has it; 0 where no page stands here yet.
+    // The page as `code_of` has it; 0 where no page with strokes stands here yet.
     code: AtomicU64,
     // By source.
     counts: Vec<AtomicUsize>,
@@ -30,7 +32,7 @@ impl Holes {
         Ok(Holes { pages })
     }
 
-    /// Returns the pages that have strokes, as far as the member knows, each once.
+    /// Returns the page slots; one without strokes, as far as the member knows, has no page here.
     pub fn pages(&self) -> &[PageHoles] {
         self.pages.as_slice()
     }
@@ -44,39 +46,13 @@ impl Holes {
         all
     }
 
-    /// Notes that a page has strokes. A ninth page isn't noted: no member has more pages.
-    pub fn note_page(&self, page: Page) {
-        let _ = self.slot_of(page);
-    }
-
-    /// Notes that one drawop more is missing. It isn't counted where eight other pages have strokes: no member has more pages.
-    pub fn note_missing(&self, name: Name) {
-        let stream = name.stream();
-        if let Some(slot) = self.slot_of(stream.page) {
-            if let Some(page) = self.pages.get(slot) {
-                page.note_missing(stream.source);
+    /// Stores what a member answers: which of its pages have strokes, and how many drawops it misses there, by source. Looks at 512 numbers at most.
+    pub fn ask<W: Words + Drop>(&self, agent: &Agent<W>) {
+        for (slot, page) in agent.pages().iter().enumerate() {
+            if let Some(holes) = self.pages.get(slot) {
+                holes.ask(agent, page);
             }
         }
-    }
-
-    /// Notes that a drawop that was missing came.
-    pub fn note_came(&self, name: Name) {
-        let stream = name.stream();
-        if let Some(slot) = self.slot_of(stream.page) {
-            if let Some(page) = self.pages.get(slot) {
-                page.note_came(stream.source);
-            }
-        }
-    }
-
-    // The place of a page, which it has from now on if it had none.
-    fn slot_of(&self, page: Page) -> Option<usize> {
-        for (slot, one) in self.pages.iter().enumerate() {
-            if one.is_of(&page) {
-                return Some(slot);
-            }
-        }
-        None
     }
 }
 
@@ -105,25 +81,39 @@ impl PageHoles {
         }
     }
 
-    fn note_missing(&self, member: Member) {
-        if let Some(count) = self.counts.get(member.index()) {
-            count.fetch_add(1, Ordering::SeqCst);
+    fn ask<W: Words + Drop>(&self, agent: &Agent<W>, page: &Page) {
+        for number in 0..MEMBERS {
+            if let Some(source) = Member::new(number) {
+                self.ask_known(agent, source, page);
+                self.ask_missing(agent, source, page);
+            }
         }
     }
 
-    fn note_came(&self, member: Member) {
-        if let Some(count) = self.counts.get(member.index()) {
-            count.fetch_sub(1, Ordering::SeqCst);
+    // Stores the page, if the member knows of strokes of this source there.
+    fn ask_known<W: Words + Drop>(&self, agent: &Agent<W>, source: Member, page: &Page) {
+        let stream = Stream {
+            source,
+            page: *page,
+        };
+        if agent.known(stream) > 0 {
+            self.code.store(code_of(*page), Ordering::SeqCst);
         }
     }
 
-    // Whether this page stands here, as it does from now on where none did.
-    fn is_of(&self, page: &Page) -> bool {
-        let code = code_of(*page);
-        let found = self.code.load(Ordering::SeqCst);
-        if found == 0 {
-            self.code.store(code, Ordering::SeqCst);
+    // Stores how many drawops of this source the member misses there.
+    fn ask_missing<W: Words + Drop>(&self, agent: &Agent<W>, source: Member, page: &Page) {
+        let stream = Stream {
+            source,
+            page: *page,
+        };
+        let missing = agent.missing_of(stream);
+        self.show(source, missing);
+    }
+
+    fn show(&self, source: Member, missing: u32) {
+        if let Some(count) = self.counts.get(source.index()) {
+            count.store(missing as usize, Ordering::SeqCst);
         }
-        found == 0 || found == code
     }
 }

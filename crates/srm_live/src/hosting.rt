@@ -1,6 +1,6 @@
 //! The node of a live member, its page workers, and the thread that draws what is typed.
 
-ghost use Rattle.std.specs.Prelude.{◌≡◌, List, None, Some, map, vec_len, IfOk, IfSome};
+ghost use Rattle.std.specs.Prelude.{◌≡◌, List, Option, None, Some, true, map, vec_len, IfOk, IfSome, IsOkAnd};
 ghost use Rattle.std.specs.List.{AllByRecursion, list_all, list_any};
 ghost use Rattle.srm_names.specs.declared.limits.TheConstants.{PAGES};
 ghost use Rattle.srm_names.specs.declared.page_msg.PageMsg.{PageMsg as AMessage};
@@ -10,7 +10,8 @@ ghost use Rattle.srm_node.specs.Hosting.{AreEndsOfLanes};
 ghost use Rattle.srm_udp.specs.Clocks.{NeverFalls};
 ghost use Rattle.srm_member.specs.Stations.{HasNewEnds};
 ghost use Rattle.srm_member.specs.Statuses.{fault_of, fault_of_lists, lacks_memory, IsRecordedEnd};
-ghost use Rattle.srm_member.specs.TakenText.{has_close};
+ghost use Rattle.srm_member.specs.TakenText.{has_close, lists_of};
+ghost use Rattle.srm_record.specs.Begun.{IsRecorded};
 ghost use Rattle.srm_member.specs.WholeRuns.{TakePrefixes, IsReceivedOf, SawEach};
 ghost use Rattle.srm_live.specs.declared.typing_thread.TypedPens.{TypedPens as ThePens};
 ghost use Rattle.srm_live.specs.LiveRuns.{AreOnLines, AreFirstOf, IsWholeLiveRun};
@@ -21,7 +22,7 @@ use crate::shown_pages::ShownPages;
 use crate::typing_thread::{TypedPens, join_typing, start_typing};
 use srm_agent::Entry;
 use srm_control::{PageCommands, PageControl, settle_control};
-use srm_member::{MemberFault, Station, end_record, host_if, join_pens, settle_lanes};
+use srm_member::{MemberFault, Recorded, Station, end_record, host_if, join_pens, settle_lanes};
 use srm_names::PageMsg;
 use srm_node::{Hosted, NodeEnds, PageSink, Worked};
 use srm_pages::Feed;
@@ -29,7 +30,7 @@ use srm_record::Written;
 use srm_script::ScriptFault;
 use srm_wire::Wire;
 use srm_world::Past;
-use std::alloc::Global;
+use std::alloc::{AllocError, Global};
 use std::fs::OpenFile;
 use std::io::{Read, Write};
 use std::sync::{Arc, Wait};
@@ -65,7 +66,7 @@ where
     requires new { HasNewEnds station.node.view station.taps.items station.pens.items }
     requires control { (pages ≡ new_control pages.out pages.back) × (station.node.view.control ≡ Some (new_commands pages.out pages.back)) }
     requires sinks { vec_len sinks ≡ PAGES }
-    ensures { result ≡ None → ((took : List (List AMessage)) × IsWholeLiveRun (calls_of NeverFalls X.receives X.sends X.pauses) turns (I.remaining reader) station.node.view took × SawEach S.sees sinks.items took) }
+    ensures { result ≡ None → ((took : List (List AMessage)) × (whole : IsWholeLiveRun (calls_of NeverFalls X.receives X.sends X.pauses) turns (I.remaining reader) station.node.view took) × SawEach S.sees sinks.items took × (file : Option F) × IsRecorded F.contents station.node.begins whole.host.last.journal.entries took file) }
 {
     let Station {
         node,
@@ -97,6 +98,7 @@ fn settle<F: Write + OpenFile + Drop, P: Past<Entry> + Drop>(
     ensures fault { result ≡ None → fault_of_lists (fault_of hosted.end (list_any lacks_memory hosted.worked.items)) (list_all has_close hosted.worked.items) ≡ None }
     ensures takes { result ≡ None → TakePrefixes hosted.feeds.items (map (λ w. w.tap) hosted.worked.items) }
     ensures pens { result ≡ None → ((t : ThePens) × (typed ≡ Some t) × IsReceivedOf ends.well.received t.first × AllByRecursion (IsReceivedOf ends.well.received) t.others.items × AreFirstOf ends.commands t.control) }
+    ensures recorded { result ≡ None → ((file : Option F) × IsRecorded F.contents hosted.history.begins hosted.history.journal.entries (lists_of hosted.worked.items) file) }
 {
     match typed {
         Some(typed) => settle_typed(alloc, hosted, ends, typed),
@@ -104,7 +106,7 @@ fn settle<F: Write + OpenFile + Drop, P: Past<Entry> + Drop>(
     }
 }
 
-#[tactic(auto, using(crate::proofs::Recorded::of_fault, crate::proofs::Recorded::of_whole))]
+#[tactic(auto, using(crate::proofs::Recorded::of_fault, crate::proofs::Recorded::of_record))]
 fn settle_typed<F: Write + OpenFile + Drop, P: Past<Entry> + Drop>(
     alloc: Global,
     hosted: Hosted<Written<F, P>, Vec<PageMsg>>,
@@ -118,20 +120,35 @@ fn settle_typed<F: Write + OpenFile + Drop, P: Past<Entry> + Drop>(
     ensures takes { result ≡ None → TakePrefixes hosted.feeds.items (map (λ w. w.tap) hosted.worked.items) }
     ensures pens { result ≡ None → (IsReceivedOf ends.well.received typed.first × AllByRecursion (IsReceivedOf ends.well.received) typed.others.items) }
     ensures answers { result ≡ None → AreFirstOf ends.commands typed.control }
+    ensures recorded { result ≡ None → ((file : Option F) × IsRecorded F.contents hosted.history.begins hosted.history.journal.entries (lists_of hosted.worked.items) file) }
 {
     let Hosted {
-        journal,
+        history,
         feeds,
         worked,
         end,
+        left,
     } = hosted;
-    let recorded = end_record(alloc, journal, worked.as_slice());
+    drop(left);
+    let recorded = end_record(alloc, history, worked.as_slice());
     match MemberFault::of_whole_run(end, worked.as_slice()) {
         Some(fault) => Some(fault),
         None => {
             put_together(feeds, worked, ends, typed);
-            MemberFault::of_record(recorded)
+            unrecorded(recorded)
         }
+    }
+}
+
+/// Returns why a whole run isn't recorded, by how its record ended; `None` if the file has the whole record, or there is none. Takes no memory.
+#[tactic(auto, using(crate::proofs::Recorded::of_whole))]
+pub fn unrecorded<F: Write + Drop>(recorded: Result<Recorded<F>, AllocError>) -> Option<MemberFault>
+    ensures fault { IsRecordedEnd None result }
+    ensures whole { result ≡ None → IsOkAnd recorded (λ r. r.whole ≡ true) }
+{
+    match recorded {
+        Ok(recorded) => MemberFault::of_record(Ok(recorded.whole)),
+        Err(error) => MemberFault::of_record(Err(error)),
     }
 }
 

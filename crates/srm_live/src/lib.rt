@@ -16,12 +16,11 @@
 #![tactic(auto)]
 
 mod asking;
+mod claims;
 mod command;
-mod counted_wire;
 mod cut;
 mod desk;
 mod dropped;
-mod earlier;
 mod error_stream;
 mod holes;
 mod hosting;
@@ -34,11 +33,11 @@ mod living;
 mod lost;
 mod member_set;
 mod need;
-mod needed;
 mod news;
 mod obeying;
 mod page_code;
 mod pages_told;
+mod patience;
 mod polled_input;
 mod presence;
 mod readable;
@@ -56,15 +55,14 @@ mod unfinished;
 mod watched;
 mod who;
 
-pub use counted_wire::CountedWire;
-pub use dropped::Dropped;
-pub use earlier::LastDrawn;
+pub use claims::Claims;
+pub use dropped::ByCause;
+pub use hosting::unrecorded;
 pub use laws::a_sink_prints_what_it_sees;
 pub use lingering::{Stay, Staying};
 pub use live_fault::WAS_BEFORE;
 pub use living::run_live;
 pub use lost::Lost;
-pub use need::Need;
-pub use needed::Needed;
+pub use need::{Need, is_needed};
 pub use polled_input::PolledInput;
 pub use tally::{Activity, Tally};

@@ -1,6 +1,7 @@
 //! Staying while others need what the member holds, and while it misses something.
 
 use crate::need::Need;
+use crate::patience::Lingering;
 use std::alloc::Global;
 use std::sync::atomic::{AtomicBool, Ordering};
 use std::sync::{Arc, Wait};
@@ -13,22 +14,12 @@ const NAP: u64 = 250_000;
 /// How often is looked whether others need something, in microseconds.
 const LOOK: u64 = 10_000;
 
-/// The longest time that a member lingers, in seconds: whoever asks on and on holds nobody for ever.
-const LONGEST: u64 = 30;
-
-/// How long it waits for what it misses itself, in microseconds, if nothing of that comes: where three repairs were lost before any distance was measured, it asks again
-/// after 3.2 seconds at most.
-const PATIENCE: u64 = 5_000_000;
-
-/// So many session messages tell of its last stroke before it leaves: one alone may be lost.
-const SESSIONS: u64 = 2;
-
 /// How long a member stays once its input ended.
 #[derive(Drop)]
 pub struct Staying {
     /// So many microseconds in any case.
     pub stay: u64,
-    /// And then until for so many microseconds, or for 5 seconds if it misses something, nobody asked for what it holds, no repair timer ran and nothing that it missed
+    /// And then until for so many microseconds, or for 5 seconds if it misses something, no repair timer ran, no request or repair waited for the rate and nothing that it missed
     /// came, and two session messages went since its last stroke; for 30 seconds at most. If it is 0, it doesn't linger.
     pub linger: u64,
     /// What others need of it, and what it misses.
@@ -39,10 +30,10 @@ pub struct Staying {
 #[derive(Drop)]
 pub struct Stay {
     start: Option<Instant>,
-    // How often others had asked and how much it missed when it looked last, and how long it had lingered when either changed last or a repair timer ran.
+    // How often others had asked and how much it missed when it looked last, and how many microseconds it had lingered when either changed last or others needed it.
     asked: u64,
-    missing: usize,
-    needed: Duration,
+    missing: u32,
+    needed: u64,
 }
 
 impl Staying {
@@ -52,7 +43,7 @@ impl Staying {
             start: Instant::now(rt).ok(),
             asked: self.need.asked(),
             missing: self.need.missing(),
-            needed: Duration::from_micros(0),
+            needed: 0,
         }
     }
 
@@ -91,27 +82,23 @@ impl Staying {
 
     // Sleeps for a while if it is still to linger, having lingered so long. Whether it did.
     fn linger<R: Clock>(&self, rt: &R, stay: &mut Stay, lingered: Duration) -> bool {
+        let lingered = u64::try_from(lingered.as_micros()).unwrap_or(u64::MAX);
         let (asked, missing) = (self.need.asked(), self.need.missing());
-        if self.need.has_repairs() || asked != stay.asked || missing != stay.missing {
+        if self.need.is_needed() || asked != stay.asked || missing != stay.missing {
             stay.asked = asked;
             stay.missing = missing;
             stay.needed = lingered;
         }
-        let is_quiet = lingered.saturating_sub(stay.needed) >= self.quiet_after(missing);
-        let has_told = self.linger == 0 || self.need.sessions() >= SESSIONS;
-        if (is_quiet && has_told) || lingered >= Duration::from_secs(LONGEST) {
+        let lingering = Lingering {
+            lingered,
+            needed: stay.needed,
+            missing,
+            sessions: self.need.sessions(),
+        };
+        if lingering.is_over(self.linger) {
             return false;
         }
         thread::sleep(rt, Duration::from_micros(LOOK));
         true
-    }
-
-    // How long nothing may have been needed before it leaves, if so many strokes are missing.
-    fn quiet_after(&self, missing: usize) -> Duration {
-        Duration::from_micros(if missing > 0 && self.linger > 0 {
-            self.linger.max(PATIENCE)
-        } else {
-            self.linger
-        })
     }
 }

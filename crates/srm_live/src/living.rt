@@ -6,7 +6,7 @@ ghost use Rattle.srm_node.specs.Calls.{calls_of};
 ghost use Rattle.srm_udp.specs.Clocks.{NeverFalls};
 ghost use Rattle.srm_udp.specs.Resting.{new_rested};
 ghost use Rattle.srm_guarded.specs.Guarding.{guarded_wire};
-ghost use Rattle.srm_member.specs.Stations.{HasNewEnds, IsNewStation};
+ghost use Rattle.srm_member.specs.Stations.{BeginsIn, HasNewEnds, IsNewStation};
 ghost use Rattle.srm_script.specs.declared.fault.ScriptFault.TheVariants.{Memory};
 ghost use Rattle.srm_member.specs.declared.fault.MemberFault.TheVariants.{Script};
 ghost use Rattle.srm_live.specs.declared.live_fault.LiveFault.TheVariants.{Member};
@@ -14,31 +14,29 @@ ghost use Rattle.srm_live.specs.declared.live_fault.TheConstants.{WAS_BEFORE};
 ghost use Rattle.srm_live.specs.LiveMembers.{LivesFrom, LivesWith, LivesWhole};
 ghost use Rattle.srm_live.specs.LiveStatuses.{IsLiveStatus, IsWholeEnd, IsWholeStatus, status_of_live};
 
-use crate::counted_wire::CountedWire;
 use crate::desk::Desk;
-use crate::dropped::Dropped;
+use crate::dropped::ByCause;
 use crate::hosting::host_live;
 use crate::lingering::Staying;
 use crate::live_fault::LiveFault;
 use crate::live_sink::{Printing, printing_sinks};
 use crate::lost::Lost;
 use crate::need::Need;
-use crate::needed::Needed;
 use crate::news::{Told, tell_news};
 use crate::shown_pages::ShownPages;
 use crate::telling::start_telling;
 use crate::unfinished::tell_unfinished;
 use crate::watched::Watched;
 use srm_agent::Entry;
-use srm_guard::Key;
-use srm_guarded::{Guarded, Published, bind_guarded, read_key};
-use srm_member::{MemberFault, Noting, Station, beginning_of, open_record, told_with};
+use srm_guard::{Guard, Seal};
+use srm_guarded::{read_key, seal_by};
+use srm_member::{MemberFault, Noting, Station, open_record, told_with};
 use srm_node::PageSink;
 use srm_options::NodeOptions;
 use srm_record::Written;
 use srm_script::ScriptFault;
-use srm_udp::{Losses, Rested};
-use srm_wire::Wire;
+use srm_udp::{Rested, UdpWire};
+use srm_wire::{Dropped, Losses, Wire};
 use srm_world::Past;
 use std::alloc::{AllocError, Global};
 use std::fs::OpenFile;
@@ -47,7 +45,7 @@ use std::net::Net;
 use std::rt::Files;
 use std::sync::{Arc, Wait};
 use std::thread::{JoinHandle, Threads};
-use std::{mem, time};
+use std::time;
 
 /// Runs a member with these options: draws each line of the input as it comes, by one producer, and prints what its page workers take as they take it. After the end
 /// of input it stays for `stay` microseconds, lingers until for `linger` microseconds, or for 5 seconds if it misses something, nobody needed what it holds and nothing that it
@@ -77,7 +75,7 @@ where
     E: Write + IsTerminal + Send + Drop + 'static,
     ensures ends { IsLiveStatus result }
     ensures greatest { result ≤ WAS_BEFORE }
-    ensures whole { IsWholeStatus result → LivesWhole options (I.remaining reader) }
+    ensures whole { IsWholeStatus result → LivesWhole R.File.contents options (I.remaining reader) }
 {
     let alloc = rt.alloc();
     match Arc::new(alloc, Desk::new(alloc, options.config, out, err)) {
@@ -102,7 +100,7 @@ where
     E: Write + Send + Drop + 'static,
     ensures ends { IsLiveStatus result }
     ensures greatest { result ≤ WAS_BEFORE }
-    ensures whole { IsWholeStatus result → LivesWhole options (I.remaining reader) }
+    ensures whole { IsWholeStatus result → LivesWhole R.File.contents options (I.remaining reader) }
 {
     let Ok(sinks) = printing_sinks(rt, alloc, options.config.me(), desk) else {
         return print(rt, desk, &out_of_memory());
@@ -143,7 +141,7 @@ where
     O: Write + Send + Drop + 'static,
     E: Write + Send + Drop + 'static,
     requires { vec_len sinks ≡ PAGES }
-    ensures { IsWholeEnd result → LivesWith options (I.remaining reader) sinks.items }
+    ensures { IsWholeEnd result → LivesWith R.File.contents options (I.remaining reader) sinks.items }
 {
     let turns = options.turns;
     let Ok(staying) = staying_of(alloc, &options) else {
@@ -157,7 +155,11 @@ where
         Ok(record) => record,
         Err(fault) => return Some(LiveFault::Member(fault)),
     };
-    match bind(rt, alloc, options, key, record, &staying, desk) {
+    let seal = match seal_by(rt, alloc, key, options.config.me()) {
+        Ok(seal) => seal,
+        Err(fault) => return Some(LiveFault::Member(MemberFault::from(fault))),
+    };
+    match bind(rt, alloc, options, seal, record, &staying, desk) {
         Ok((station, noting)) => run_bound(
             rt, alloc, station, noting, reader, sinks, staying, turns, desk,
         ),
@@ -189,7 +191,7 @@ where
     E: Write + Send + Drop + 'static,
     requires new { HasNewEnds station.node.view station.taps.items station.pens.items }
     requires sinks { vec_len sinks ≡ PAGES }
-    ensures { IsWholeEnd result → LivesFrom (calls_of NeverFalls X.receives X.sends X.pauses) S.sees turns (I.remaining reader) station.node.view sinks.items }
+    ensures { IsWholeEnd result → LivesFrom (calls_of NeverFalls X.receives X.sends X.pauses) S.sees F.contents turns (I.remaining reader) station.node.view station.node.begins sinks.items }
 {
     let mut station = station;
     let Ok(control) = station.node.control(alloc) else {
@@ -240,7 +242,7 @@ fn tell_dropped<R: Wait, O: Write, E: Write>(rt: &R, dropped: Dropped, desk: &De
     if dropped == Dropped::none() {
         return;
     }
-    if let Ok(line) = format!(in desk.alloc(); "srm: dropped: {dropped}\n") {
+    if let Ok(line) = format!(in desk.alloc(); "srm: dropped: {}\n", ByCause(dropped)) {
         desk.tell(rt, line.as_str());
     }
 }
@@ -260,13 +262,13 @@ fn bind<R, F, O, E>(
     rt: &R,
     alloc: Global,
     options: NodeOptions,
-    key: Option<Key>,
-    record: Option<F>,
+    seal: Option<Seal>,
+    file: Option<F>,
     staying: &Staying,
     desk: &Desk<O, E>,
 ) -> Result<
     (
-        Station<R, Rested<R, CountedWire>, Written<F, Published<Needed<Watched>>>>,
+        Station<R, Rested<R, Guard<UdpWire>>, Written<F, Watched>>,
         Noting,
     ),
     MemberFault,
@@ -276,38 +278,16 @@ where
     F: Write + Drop,
     O: Write,
     E: Write,
-    ensures { IfOk result (λ b. IsNewStation options.config 0 None (new_rested (guarded_wire options.addresses.items options.guard key)) b.0.node.view b.0.taps.items b.0.pens.items) }
+    ensures new { IfOk result (λ b. IsNewStation options.config 0 options.guard.most_missing None (new_rested (guarded_wire options.addresses.items options.guard seal)) b.0.node.view b.0.taps.items b.0.pens.items) }
+    ensures begins { IfOk result (λ b. BeginsIn F.contents file options.seed b.0.node.view.journal.start b.0.node.begins) }
 {
-    let beginning = beginning_of(rt, &options);
+    let need = Arc::try_clone(&staying.need).ok();
+    let past = Watched::new(alloc, options.config, need, desk.share_tally());
     let mut options = options;
     options.stay = 0;
-    let addresses = mem::replace(&mut options.addresses, Vec::new(alloc));
-    let me = options.config.me();
-    let Some(own) = addresses.get(me.index()).copied() else {
-        return Err(MemberFault::Wire);
-    };
-    match bind_guarded(rt, alloc, options.config, &options.guard, key, addresses) {
-        Ok(
-            Guarded {
-                wire,
-                waker,
-                known,
-                failure,
-            },
-        ) => {
-            let wire = CountedWire::new(wire, desk.share_tally());
-            let wire = Rested::new(*rt, wire);
-            let watched = Watched::new(alloc, options.config, desk.share_tally());
-            let past = Needed::new(alloc, watched, Arc::try_clone(&staying.need).ok());
-            let past = Published::new(alloc, past, known);
-            let past = Written::new(alloc, record, beginning, past);
-            match Station::with_past(rt, alloc, &options, wire, waker, past) {
-                Ok(station) => Ok((station, failure)),
-                Err(fault) => Err(fault),
-            }
-        }
-        Err(error) => Err(MemberFault::of_bind(own, error)),
-    }
+    // The cause of a failed bind or call is always told.
+    options.verbose = true;
+    Station::bind(rt, alloc, options, seal, file, past)
 }
 
 // Prints the end of a whole run. Why it was none, by why the node's run wasn't and what befell the streams, and whether the member was in the session before. A wire that

@@ -1,6 +1,6 @@
 //! What was lost on its way out, for the user.
 
-use srm_udp::Losses;
+use srm_wire::Losses;
 use std::fmt;
 use std::sync::atomic::{AtomicU64, Ordering};
 

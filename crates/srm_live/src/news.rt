@@ -4,10 +4,10 @@ ghost use Rattle.std.specs.Prelude.{◌≡◌, option_map};
 ghost use Rattle.srm_live.specs.News as spec;
 
 use crate::desk::Desk;
-use crate::dropped::Dropped;
 use crate::presence::{Presence, Standing};
 use crate::tally::Tally;
 use srm_names::{MEMBERS, Member};
+use srm_wire::Dropped;
 use std::io::Write;
 use std::sync::Wait;
 
@@ -73,17 +73,36 @@ fn tell_first_dropped<R: Wait, O: Write, E: Write>(
     told: Dropped,
     now: Dropped,
 ) {
-    if told.untagged == 0 && now.untagged > 0 {
-        desk.tell(
-            rt,
+    for (before, now, line) in [
+        (
+            told.untagged.saturating_sub(told.older),
+            now.untagged.saturating_sub(now.older),
             "srm: dropped a datagram without the right tag: do all members have this key?\n",
-        );
-    }
-    if told.strangers == 0 && now.strangers > 0 {
-        desk.tell(
-            rt,
+        ),
+        (
+            told.older,
+            now.older,
+            "srm: dropped a datagram from an older version: start that member with this one\n",
+        ),
+        (
+            told.again,
+            now.again,
+            "srm: dropped a datagram that was sent again: was a member's clock set back?\n",
+        ),
+        (
+            told.misnamed,
+            now.misnamed,
+            "srm: dropped a datagram that is not from its sender's address: --any-origin takes such\n",
+        ),
+        (
+            told.strangers,
+            now.strangers,
             "srm: dropped a datagram from outside the roster: --any-origin takes such\n",
-        );
+        ),
+    ] {
+        if before == 0 && now > 0 {
+            desk.tell(rt, line);
+        }
     }
 }
 

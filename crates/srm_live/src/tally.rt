@@ -1,13 +1,13 @@
 //! What a member goes through, counted.
 
-use crate::dropped::{Dropped, DroppedCounts};
+use crate::dropped::{ByCause, DroppedCounts};
 use crate::holes::Holes;
 use crate::lost::{Lost, LostCounts};
 use crate::page_code::{code_of, page_of};
 use crate::presence::Presence;
 use srm_codec::Datagram;
 use srm_names::Page;
-use srm_udp::Losses;
+use srm_wire::{Dropped, Losses, WireCounts};
 use std::alloc::{AllocError, Global};
 use std::fmt;
 use std::sync::atomic::{AtomicBool, AtomicU32, AtomicU64, AtomicUsize, Ordering};
@@ -33,6 +33,8 @@ pub struct Tally {
     // How many session messages were sent, and the page of the last one, as a number.
     sessions: AtomicU64,
     told_page: AtomicU64,
+    // The page of the member's last stroke, as a number.
+    drawn_page: AtomicU64,
 }
 
 /// The session messages that a member sent.
@@ -64,6 +66,7 @@ impl Tally {
             dropped: DroppedCounts::new(),
             sessions: AtomicU64::new(0),
             told_page: AtomicU64::new(0),
+            drawn_page: AtomicU64::new(0),
         })
     }
 
@@ -127,6 +130,16 @@ impl Tally {
         }
     }
 
+    /// Notes that the member drew a stroke on this page.
+    pub fn note_drawn(&self, page: Page) {
+        self.drawn_page.store(code_of(page), Ordering::SeqCst);
+    }
+
+    /// Returns the page of the member's last stroke, which [`holes`](Tally::holes) has from the end of the turn on.
+    pub fn drawn_page(&self) -> Option<Page> {
+        page_of(self.drawn_page.load(Ordering::SeqCst))
+    }
+
     /// Returns which pages have strokes, and which drawops are missing now, by stream.
     pub fn holes(&self) -> &Holes {
         &self.holes
@@ -140,6 +153,12 @@ impl Tally {
     /// Counts what came and is noise to the agent.
     pub fn count_noise(&self) {
         add_one(&self.noise);
+    }
+
+    /// Stores what the wire has counted by now.
+    pub fn show_wire(&self, counts: &WireCounts) {
+        self.show_lost(counts.lost);
+        self.show_dropped(counts.dropped);
     }
 
     /// Stores how many were lost on their way out by now.
@@ -222,7 +241,7 @@ impl fmt::Display for Activity {
             write!(f, ", lost: {}", Lost(self.losses))?;
         }
         if self.dropped != Dropped::none() {
-            write!(f, ", dropped: {}", self.dropped)?;
+            write!(f, ", dropped: {}", ByCause(self.dropped))?;
         }
         Ok(())
     }

@@ -1,7 +1,7 @@
 //! What goes on, as short as the title of a window.
 
 use crate::tally::Activity;
-use srm_udp::Losses;
+use srm_wire::Losses;
 use std::fmt;
 
 /// What goes on, in 80 characters at most.

@@ -2,14 +2,15 @@
 
 ghost use Rattle.std.specs.Prelude.{◌≡◌, []};
 
-use crate::earlier::LastDrawn;
+use crate::claims::Claims;
+use crate::need::Need;
 use crate::presence::Presence;
 use crate::tally::Tally;
-use indexmap::IndexSet;
-use srm_agent::{Config, Entry, Input, Verdict};
+use srm_agent::{Agent, Config, Entry, Input, Verdict};
 use srm_codec::Datagram;
-use srm_names::{MEMBERS, Member, Name};
-use srm_timers::ArmKind;
+use srm_names::{MEMBERS, Member};
+use srm_timers::Words;
+use srm_wire::WireCounts;
 use srm_world::{Forgotten, Past};
 use std::alloc::{AllocError, Global};
 use std::sync::Arc;
@@ -17,20 +18,28 @@ use std::sync::Arc;
 /// After so many microseconds without a datagram a member counts as silent.
 const SILENCE: u64 = 10_000_000;
 
-/// The entries of a node that keeps none of them. What each says of the member is told to a tally first, if one is kept.
+/// The entries of a node that keeps none of them. What each says happened is told first to what others need, and to a tally if one is kept; and to both at the end of a turn what
+/// the member answers.
 #[derive(Drop)]
 pub struct Watched {
     past: Forgotten<Entry>,
+    need: Option<Arc<Need, Global>>,
     watch: Option<Watch>,
 }
 
 impl Watched {
-    /// Makes a history without entries, which tells this tally of each from now on. Without memory for it nothing is told.
-    pub fn new(alloc: Global, config: Config, tally: Option<Arc<Tally, Global>>) -> Watched
+    /// Makes a history without entries, which tells this need and this tally of each from now on. Without memory for it the tally is told nothing.
+    pub fn new(
+        alloc: Global,
+        config: Config,
+        need: Option<Arc<Need, Global>>,
+        tally: Option<Arc<Tally, Global>>,
+    ) -> Watched
         ensures { result.past ≡ [] }
     {
         Watched {
             past: Forgotten::new(),
+            need,
             watch: watch_of(alloc, config, tally),
         }
     }
@@ -41,6 +50,7 @@ impl Watched {
     {
         Watched {
             past: Forgotten::new(),
+            need: None,
             watch: None,
         }
     }
@@ -62,10 +72,23 @@ impl Past<Entry> for Watched {
     }
 
     fn append(&mut self, one: Entry) {
+        if let Some(need) = &self.need {
+            need.see(&one);
+        }
         if let Some(watch) = &mut self.watch {
             watch.see(&one);
         }
         self.past.append(one);
+    }
+
+    fn turned<W: Words + Drop>(&mut self, agent: &Agent<W>, counts: &WireCounts) {
+        if let Some(need) = &self.need {
+            need.show(&agent.outstanding());
+        }
+        if let Some(watch) = &mut self.watch {
+            watch.show_wire(counts);
+            watch.ask(agent);
+        }
     }
 }
 
@@ -73,14 +96,16 @@ impl Past<Entry> for Watched {
 #[derive(Drop)]
 struct Watch {
     config: Config,
-    // A member has a request timer for each drawop that it misses and for no other, so a name comes in with its first timer and goes as its drawop comes.
-    missing: IndexSet<Name>,
-    // What the member drew, unless memory ran out for it.
-    drawn: Option<LastDrawn>,
     presence: Presence,
     // When each member was heard last.
     heard_at: Vec<u64>,
+    // What was said of the member's own streams in this turn.
+    claims: Claims,
+    // Whether an entry of this turn may have changed what the member answers.
+    is_stale: bool,
     tally: Arc<Tally, Global>,
+    // What the tally was told of the wire last.
+    counts: WireCounts,
 }
 
 fn watch_of(alloc: Global, config: Config, tally: Option<Arc<Tally, Global>>) -> Option<Watch> {
@@ -88,26 +113,63 @@ fn watch_of(alloc: Global, config: Config, tally: Option<Arc<Tally, Global>>) ->
     let heard_at = vec![in alloc; 0; usize::from(MEMBERS)].ok()?;
     Some(Watch {
         config,
-        missing: IndexSet::new(alloc),
-        drawn: Some(LastDrawn::new(alloc)),
         presence: Presence::none(),
         heard_at,
+        claims: Claims::new(alloc),
+        is_stale: false,
         tally,
+        counts: WireCounts::of_failures(0),
     })
 }
 
 impl Watch {
+    // Shows what the wire lost and dropped, if that changed.
+    fn show_wire(&mut self, counts: &WireCounts) {
+        if *counts != self.counts {
+            self.counts = *counts;
+            self.tally.show_wire(counts);
+        }
+    }
+
+    // Shows what the member answers, if it may have changed: what it misses, by stream, which of its pages have strokes, who left, and whether others know of more than it drew.
+    fn ask<W: Words + Drop>(&mut self, agent: &Agent<W>) {
+        if self.is_stale {
+            self.is_stale = false;
+            self.tally.show_missing(agent.missing() as usize);
+            self.tally.holes().ask(agent);
+            self.look_for_left(agent);
+            if self.claims.settle(agent) {
+                self.tally.note_earlier();
+            }
+        }
+        self.tally.show_presence(self.presence);
+    }
+
+    fn look_for_left<W: Words + Drop>(&mut self, agent: &Agent<W>) {
+        for number in 0..self.config.members() {
+            if let Some(member) = Member::new(number) {
+                if number != self.config.me().number() && agent.has_left(member) {
+                    self.presence.leave(member);
+                }
+            }
+        }
+    }
+
     fn see(&mut self, entry: &Entry) {
         match &entry.input {
             Input::Noise => self.tally.count_noise(),
             Input::Heard(datagram) => self.hear(entry, datagram),
             Input::Ticked => self.tick(entry),
+            Input::Drew(..) => self.note_drawn(entry),
             _ => {}
         }
-        self.note_drawn(entry);
-        self.miss(entry);
-        self.tally.show_missing(self.missing.len());
-        self.tally.show_presence(self.presence);
+    }
+
+    fn note_drawn(&mut self, entry: &Entry) {
+        self.is_stale = true;
+        if let Some(drawop) = &entry.effects.drawn {
+            self.tally.note_drawn(drawop.name.stream().page);
+        }
     }
 
     fn tick(&mut self, entry: &Entry) {
@@ -126,18 +188,15 @@ impl Watch {
     }
 
     fn hear(&mut self, entry: &Entry, datagram: &Datagram) {
+        self.is_stale = true;
         if is_of_other(self.config, datagram) {
             self.tally.count_came();
             self.note_heard(datagram.sender(), entry.moment);
         }
         if matches!(entry.verdict, Verdict::Ignored(_)) {
             self.tally.count_ignored();
-            self.look_for_earlier(datagram);
-            return;
-        }
-        self.gain(datagram);
-        if matches!(datagram, Datagram::Session { farewell: true, .. }) {
-            self.presence.leave(datagram.sender());
+            // If out of memory, an earlier run is told of by a later message.
+            let _ = self.claims.note(self.config.me(), datagram);
         }
     }
 
@@ -163,48 +222,6 @@ impl Watch {
         };
         if self.presence.is_heard(member) && now.saturating_sub(*last) >= SILENCE {
             self.presence.fall_silent(member);
-        }
-    }
-
-    // Whether an ignored datagram tells that the member was in the session before.
-    fn look_for_earlier(&self, datagram: &Datagram) {
-        if let Some(drawn) = &self.drawn {
-            if drawn.is_exceeded(self.config.me(), datagram) {
-                self.tally.note_earlier();
-            }
-        }
-    }
-
-    // Notes what was drawn. Without memory for it nothing is said of an earlier run any more.
-    fn note_drawn(&mut self, entry: &Entry) {
-        if let Some(drawop) = &entry.effects.drawn {
-            self.tally.holes().note_page(drawop.name.stream().page);
-        }
-        if let (Some(drawop), Some(drawn)) = (&entry.effects.drawn, &mut self.drawn) {
-            if drawn.note(drawop.name).is_err() {
-                self.drawn = None;
-            }
-        }
-    }
-
-    // The drawop that a datagram brought isn't missing any more.
-    fn gain(&mut self, datagram: &Datagram) {
-        if let Datagram::Data(drawop) | Datagram::Repair { drawop, .. } = datagram {
-            self.tally.holes().note_page(drawop.name.stream().page);
-            if self.missing.swap_remove(&drawop.name) {
-                self.tally.holes().note_came(drawop.name);
-            }
-        }
-    }
-
-    // What an entry sets request timers for is missing. If out of memory, a name isn't counted: a count is no ledger.
-    fn miss(&mut self, entry: &Entry) {
-        for arm in entry.effects.arms.as_slice() {
-            if arm.kind == ArmKind::Ask {
-                if let Ok(true) = self.missing.insert(arm.name) {
-                    self.tally.holes().note_missing(arm.name);
-                }
-            }
         }
     }
 }

@@ -1,4 +1,6 @@
-use Rattle.std.proofs.Common.{◌∷◌, refl, sym, ◌∙◌}
+use Rattle.std.proofs.Common.{◌∷◌, refl, sym, ◌∙◌, subst}
+use Rattle.srm_record.specs.Begun.{IsRecorded}
+use Rattle.srm_member.specs.TakenText.{lists_of}
 use Rattle.srm_node.specs.Calls.{calls_of}
 use Rattle.srm_node.specs.Hosting.{kinds_of}
 use Rattle.srm_udp.specs.Clocks.{NeverFalls}
@@ -40,5 +42,6 @@ returns-in-Some g c = λ none.
     (λ p. HaveTyped known pens c.args.pages p.first p.others.items p.control) c.join_typing-typed.ensures.none c.join_typing-typed.ensures.typed c.start_typing-typing.ensures.reader c.start_typing-typing.ensures.pens
     (λ t p typed reader_is ends. typed_as g.I.Read.remaining _ c.args.reader _ pens _ c.args.pages p.first p.others.items p.control reader_is ends.0 ends.1 typed))
     typed_is in
-    live_run (calls_of NeverFalls g.X.Wire.receives g.X.Wire.sends g.X.Wire.pauses) (kinds_of (λ l. l.items) _ g.S.PageSink.sees) c.args.turns c.args.station.node.view c.args.station.taps.items pens c.args.pages c.args.sinks.items c.in-Some.ends c.in-Some.hosted _ _ known t.first t.others.items t.control
-    c.requires.new c.requires.control (sym c.args.sinks.ok.0 ∙ c.requires.sinks) c.in-Some.ensures.hosts c.in-Some.ensures.control refl (c.settle.ensures.fault none) (c.settle.ensures.takes none) typed first others answers
+    let (file, stored) = c.settle.ensures.recorded none in
+    live_run (calls_of NeverFalls g.X.Wire.receives g.X.Wire.sends g.X.Wire.pauses) (kinds_of (λ l. l.items) _ g.S.PageSink.sees) c.args.turns c.args.station.node.view c.args.station.taps.items pens c.args.pages c.args.sinks.items c.in-Some.ends c.in-Some.hosted _ _ known t.first t.others.items t.control g.F.Write.contents c.args.station.node.begins file
+    c.requires.new c.requires.control (sym c.args.sinks.ok.0 ∙ c.requires.sinks) c.in-Some.ensures.hosts c.in-Some.ensures.control refl (c.settle.ensures.fault none) (c.settle.ensures.takes none) typed first others answers (subst (λ b. IsRecorded g.F.Write.contents b c.in-Some.hosted.history.journal.entries (lists_of c.in-Some.hosted.worked.items) file) c.in-Some.ensures.begins stored)

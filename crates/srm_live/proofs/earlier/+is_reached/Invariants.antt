@@ -1,5 +1,0 @@
-use Rattle.std.proofs.Common.{length}
-use Rattle.srm_live.proofs.earlier.+is_reached.Given as goal
-
-abbrev pub decreases-is_reached : goal.decreases-is_reached
-decreases-is_reached l = length l.last.now
