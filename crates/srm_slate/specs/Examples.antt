@@ -1,5 +1,6 @@
 -- Whom a board's server answers, what a tab is told, and what is missing, in examples.
-use Rattle.std.specs.Prelude.{◌≡◌, ℕ, true, false, List, [], ◌∷◌, length, replicate, Some, None, codes, refl}
+use Rattle.std.specs.Prelude.{◌≡◌, ℕ, true, false, List, [], ◌∷◌, length, replicate, slice_index, Some, None, codes, refl}
+use Rattle.std.proofs.Common.{ap, ◌∙◌, arith}
 use Rattle.srm_names.specs.FullName.{FullName}
 use Rattle.srm_names.specs.Names.{named, stream_on, first_page}
 use Rattle.srm_slate.specs.declared.asked.Method.{Method}
@@ -8,11 +9,13 @@ use Rattle.srm_slate.specs.declared.guard.Wish.TheVariants as wish
 use Rattle.srm_slate.specs.declared.guard.Judged.TheVariants.{Granted, Misdirected, Unknown, Foreign}
 use Rattle.srm_slate.specs.Guards.{Server, Asking, judged}
 use Rattle.srm_names.specs.declared.page_msg.PageMsg.TheVariants.{Left}
+use Rattle.srm_slate.specs.declared.happening.Happening.TheVariants.{Gained}
+use Rattle.srm_slate.specs.declared.hole.Hole.{Hole}
 use Rattle.srm_slate.specs.declared.taken.Taken.{Taken}
 use Rattle.srm_slate.specs.Happenings.{newest}
-use Rattle.srm_slate.specs.Missing.{is_new, is_told_of, with_missing, without_missing}
-use Rattle.srm_slate.specs.MissingView.{MissingView}
-use Rattle.srm_slate.specs.Slates.{blank, told_from, missed, gained, heard_from}
+use Rattle.hex.specs.Hex.{encode_lower, encode_with}
+use Rattle.srm_slate.specs.Tokens.{IsToken}
+use Rattle.srm_slate.specs.Slates.{blank, told_from, with_missing, gained, heard_from}
 
 abbrev board : Server
 board = record { hosts = codes "127.0.0.1:8080" ∷ codes "localhost:8080" ∷ []; is_anywhere = false; root = codes "/k3/" }
@@ -88,36 +91,20 @@ a_thousand_at_once = refl
 abbrev drawop : ℕ → FullName
 drawop number = named (stream_on 1 first_page) number
 
-abbrev missing : List FullName → MissingView
-missing names = record { names = names; has_more = false }
+abbrev hole : ℕ → Hole
+hole number = record { name = drawop number; reach = 9 }
 
-a_name_is_found_missing : with_missing (drawop 3) (missing (drawop 5 ∷ [])) ≡ missing (drawop 5 ∷ drawop 3 ∷ [])
-a_name_is_found_missing = refl
+the_member_misses_two : (with_missing 2 (hole 5 ∷ hole 7 ∷ []) blank).holes ≡ hole 5 ∷ hole 7 ∷ []
+the_member_misses_two = refl
 
-and_again : with_missing (drawop 5) (missing (drawop 5 ∷ [])) ≡ missing (drawop 5 ∷ [])
-and_again = refl
+of_many_the_first_are_named : length (with_missing 5000 (replicate 65 (hole 5)) blank).holes ≡ 64
+of_many_the_first_are_named = refl
 
-which_is_no_news : is_new (drawop 5) (missing (drawop 5 ∷ [])) ≡ false
-which_is_no_news = refl
+and_all_are_counted : (with_missing 5000 (replicate 65 (hole 5)) blank).missing ≡ 5000
+and_all_are_counted = refl
 
--- as many as are kept
-abbrev full : MissingView
-full = missing (replicate 4096 (drawop 5))
-
-of_too_many_it_is_said_that_there_are_more : with_missing (drawop 3) full ≡ record full { has_more = true }
-of_too_many_it_is_said_that_there_are_more = refl
-
-so_each_is_told_of : is_told_of (with_missing (drawop 3) full) (drawop 3) ≡ true
-so_each_is_told_of = refl
-
-it_comes : without_missing (drawop 5) (missing (drawop 5 ∷ drawop 3 ∷ [])) ≡ missing (drawop 3 ∷ [])
-it_comes = refl
-
-what_was_not_missing_comes : without_missing (drawop 4) (missing (drawop 5 ∷ [])) ≡ missing (drawop 5 ∷ [])
-what_was_not_missing_comes = refl
-
-with_the_last_there_are_no_more : without_missing (drawop 5) (record { names = drawop 5 ∷ []; has_more = true }) ≡ missing []
-with_the_last_there_are_no_more = refl
+then_it_misses_none : with_missing 0 [] (with_missing 2 (hole 5 ∷ hole 7 ∷ []) blank) ≡ blank
+then_it_misses_none = refl
 
 the_last_two : newest {X = ℕ} 2 (1 ∷ 2 ∷ 3 ∷ []) ≡ 2 ∷ 3 ∷ []
 the_last_two = refl
@@ -125,14 +112,32 @@ the_last_two = refl
 there_are_not_so_many : newest {X = ℕ} 4 (1 ∷ 2 ∷ 3 ∷ []) ≡ 1 ∷ 2 ∷ 3 ∷ []
 there_are_not_so_many = refl
 
-a_loss_and_its_repair_are_two_happenings : (gained (drawop 5) 2 (missed (drawop 5) blank)).happenings.count ≡ 2
-a_loss_and_its_repair_are_two_happenings = refl
+what_is_shown_as_missing_comes : (gained (drawop 7) 2 (with_missing 2 (hole 5 ∷ hole 7 ∷ []) blank)).happenings.kept ≡ Gained (drawop 7) 2 ∷ []
+what_is_shown_as_missing_comes = refl
 
-what_never_was_missing_is_none : gained (drawop 5) 2 blank ≡ blank
-what_never_was_missing_is_none = refl
+and_is_shown_until_the_member_answers_again : (gained (drawop 7) 2 (with_missing 2 (hole 5 ∷ hole 7 ∷ []) blank)).missing ≡ 2
+and_is_shown_until_the_member_answers_again = refl
+
+what_is_not_shown_as_missing_is_no_news : gained (drawop 6) 2 (with_missing 2 (hole 5 ∷ hole 7 ∷ []) blank) ≡ with_missing 2 (hole 5 ∷ hole 7 ∷ []) blank
+what_is_not_shown_as_missing_is_no_news = refl
 
 a_datagram_counts_for_who_sent_it : (heard_from 1 (heard_from 1 blank)).heard ≡ 0 ∷ 2 ∷ replicate 30 0
 a_datagram_counts_for_who_sent_it = refl
 
 and_for_all_that_came : (heard_from 2 (heard_from 1 blank)).counts.came ≡ 2
 and_for_all_that_came = refl
+
+-- a source that gives sixteen times the byte 7 makes a token of them, and no other
+abbrev Sevens : List ℕ → Type 0
+Sevens bytes = bytes ≡ replicate 16 7
+
+a_token_of_sevens : IsToken Sevens (codes "07070707070707070707070707070707")
+unfolding encode_with
+a_token_of_sevens = (replicate 16 7, refl, refl, refl)
+
+no_token_of_eights : IsToken Sevens (codes "08080808080808080808080808080808") → ⊥
+unfolding encode_with
+no_token_of_eights (bytes, sevens, many, is) =
+    let same : codes "08080808080808080808080808080808" ≡ codes "07070707070707070707070707070707" = is ∙ ap encode_lower sevens in
+    let digit : 56 ≡ 55 = ap (λ text. slice_index text 1) same in
+    absurd (omega (arith, digit))

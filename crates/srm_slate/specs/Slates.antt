@@ -1,17 +1,19 @@
 -- What the browsers of a board are shown of their member.
-use Rattle.std.specs.Prelude.{◌≡◌, ℕ, false, List, [], ◌∷◌, ◌++◌, length, take, drop, replicate, slice_index, slice_set, if◌then◌else◌}
+use Rattle.std.specs.Prelude.{◌≡◌, ℕ, Bool, false, List, [], ◌∷◌, ◌++◌, length, take, drop, replicate, slice_index, slice_set, if◌then◌else◌}
+use Rattle.std.specs.List.{list_any}
 use Rattle.srm_names.specs.declared.limits.TheConstants.{MEMBERS}
 use Rattle.srm_names.specs.FullName.{FullName}
 use Rattle.srm_names.specs.Histories.{IsPrefix}
-use Rattle.srm_names.specs.Names.{among}
+use Rattle.srm_names.specs.Names.{same_name}
 use Rattle.srm_slate.specs.declared.happening.Happening.{Happening}
-use Rattle.srm_slate.specs.declared.happening.Happening.TheVariants.{Missed, Gained}
+use Rattle.srm_slate.specs.declared.happening.Happening.TheVariants.{Gained}
 use Rattle.srm_slate.specs.declared.happenings.TheConstants.{KEPT}
+use Rattle.srm_slate.specs.declared.hole.Hole.{Hole}
+use Rattle.srm_slate.specs.declared.hole.TheConstants.{NAMED}
 use Rattle.srm_slate.specs.declared.look.Look.{Look}
 use Rattle.srm_slate.specs.declared.record.TheConstants.{TOLD}
 use Rattle.srm_slate.specs.declared.taken.Taken.{Taken}
 use Rattle.srm_slate.specs.Happenings.{newest, one_more}
-use Rattle.srm_slate.specs.Missing.{is_new, with_missing, without_missing}
 use Rattle.srm_slate.specs.RecordView.{RecordView}
 
 -- a member with nothing to show
@@ -19,7 +21,8 @@ abbrev pub blank : RecordView
 blank = record {
   taken = [];
   is_lossy = false;
-  missing = record { names = []; has_more = false };
+  missing = 0;
+  holes = [];
   happenings = record { kept = []; count = 0 };
   counts = record { sent = 0; came = 0; requests = 0; repairs = 0; ignored = 0; noise = 0; dropped = 0 };
   heard = replicate MEMBERS 0;
@@ -43,13 +46,17 @@ pub record KeepsPrefix (from : ℕ) (taken told : List Taken) : Type 0 where
 abbrev pub happened : Happening → RecordView → RecordView
 happened what r = record r { happenings = record { kept = newest KEPT (r.happenings.kept ++ what ∷ []); count = one_more r.happenings.count } }
 
--- a drawop was found missing, which is news unless its name is kept already or can't be kept
-abbrev pub missed : FullName → RecordView → RecordView
-missed name r = let shown = record r { missing = with_missing name r.missing } in if is_new name r.missing then happened (Missed name) shown else shown
+-- so many drawops are missing, and the first 64 are shown by name
+abbrev pub with_missing : ℕ → List Hole → RecordView → RecordView
+with_missing count holes r = record r { missing = count; holes = take NAMED holes }
 
--- a drawop came in a datagram of this member, which is news where it was missing
+-- the drawop is shown as missing
+abbrev pub is_hole : FullName → List Hole → Bool
+is_hole name holes = list_any (λ h. same_name h.name name) holes
+
+-- a drawop came in a datagram of this member, which is news where it is shown as missing
 abbrev pub gained : FullName → ℕ → RecordView → RecordView
-gained name by r = let shown = record r { missing = without_missing name r.missing } in if among r.missing.names name then happened (Gained name by) shown else shown
+gained name by r = if is_hole name r.holes then happened (Gained name by) r else r
 
 -- a datagram of this member came
 abbrev pub heard_from : ℕ → RecordView → RecordView
@@ -58,8 +65,7 @@ heard_from member r = record r { counts = record r.counts { came = one_more r.co
 -- a look says how the member stands
 pub record Shows (r : RecordView) (look : Look) : Type 0 where
   pub happened : look.happened ≡ r.happenings.count
-  pub missing : look.missing ≡ length r.missing.names
-  pub has_more : look.has_more ≡ r.missing.has_more
+  pub missing : look.missing ≡ r.missing
   pub counts : look.counts ≡ r.counts
   pub heard : look.heard ≡ r.heard
   pub is_lossy : look.is_lossy ≡ r.is_lossy

@@ -9,11 +9,11 @@ use std::alloc::{AllocError, Global};
 /// What befell a member.
 #[derive(Debug, Drop)]
 pub enum Happening {
-    /// A drawop was found missing.
+    /// A drawop was found missing: its first request timer was set. One that the member first hears of in another member's request for it isn't told.
     Missed(Name),
     /// The member requested it.
     Asked(Name),
-    /// A drawop that was missing came, in a datagram of this member.
+    /// A drawop that was shown as missing by name came, in a datagram of this member.
     Gained(Name, Member),
     /// A drawop that another misses was repaired.
     Repaired(Name),

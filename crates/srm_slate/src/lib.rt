@@ -1,14 +1,15 @@
 //! The board of a member: what its browsers see, and the server that shows it.
 //!
-//! A [`Slate`] holds the messages that a member's page workers took, in order, and what befell the member: what it misses, requests, receives late and repairs.
+//! A [`Slate`] holds the messages that a member's page workers took, in order, what befell the member (what it found missing, requested, received late and repaired), and what the
+//! member answered last of what it misses.
 //! [`open_door`] serves it over HTTP: the page, a long poll of what is new, and the strokes that the page draws, which go to an [`Easel`].
 //!
 //! Each tab asks for what comes behind what it has, so a tab that is slow or asleep delays nobody. What a tab was told is a prefix of what the workers took: the contract
 //! of [`Record::look`] says so.
 //!
-//! A [`Record`] has what the workers took ([`Taken`]) and what befell the member ([`Happening`]); [`Record::look`] returns a [`Look`] with [`Counts`]. [`open_door`]
+//! A [`Record`] has what the workers took ([`Taken`]), what befell the member ([`Happening`]) and what it misses ([`Hole`]); [`Record::look`] returns a [`Look`] with [`Counts`]. [`open_door`]
 //! takes a [`Face`] and returns a [`Door`]. A [`Guard`] judges what a request says ([`Asked`], [`Method`]): a [`Judged`], which grants a [`Wish`]. [`new_token`]
-//! makes a token. An [`Easel`] returns a [`Drawn`].
+//! makes a token of what a [`TokenSource`] gives. An [`Easel`] returns a [`Drawn`].
 //!
 //! ```
 //! let slate = Arc::new(alloc, Slate::new(alloc))?;
@@ -34,8 +35,8 @@ mod guard;
 mod hall;
 mod happening;
 mod happenings;
+mod hole;
 mod look;
-mod missing;
 mod page;
 mod patient;
 mod record;
@@ -50,8 +51,9 @@ pub use door::{Door, Face, open_door};
 pub use easel::{Drawn, Easel};
 pub use guard::{Guard, Judged, Wish};
 pub use happening::Happening;
+pub use hole::{Hole, NAMED};
 pub use look::{Counts, Look};
 pub use record::Record;
-pub use slate::Slate;
+pub use slate::{Shown, Slate};
 pub use taken::Taken;
-pub use token::new_token;
+pub use token::{TokenSource, new_token};

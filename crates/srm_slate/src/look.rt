@@ -1,8 +1,9 @@
 //! What is new to one tab.
 
 use crate::happening::Happening;
+use crate::hole::Hole;
 use crate::taken::Taken;
-use srm_names::{MEMBERS, Name};
+use srm_names::MEMBERS;
 
 /// Datagrams that passed, and what the member made of them. Counts stop at 2^64 - 1.
 #[derive(Clone, Copy, Debug, Default, PartialEq, Eq)]
@@ -32,12 +33,10 @@ pub struct Look {
     pub happenings: Vec<Happening>,
     /// How often something befell it.
     pub happened: u64,
-    /// How many missing drawops are kept by name, 0 to 4,096.
-    pub missing: usize,
-    /// Whether more are missing than are kept by name.
-    pub has_more: bool,
-    /// The first 64 of them, each with the greatest number that came of its stream.
-    pub holes: Vec<(Name, u32)>,
+    /// How many drawops the member misses.
+    pub missing: u32,
+    /// The first of them, 64 at most.
+    pub holes: Vec<Hole>,
     /// The datagrams that passed, and what the member made of them.
     pub counts: Counts,
     /// How many datagrams came from each member.

@@ -1,18 +1,15 @@
 //! What there is to show so far.
 
-ghost use Rattle.std.specs.Prelude.{◌≡◌, ◌-◌, [], ◌∷◌, ◌++◌, ◌&&◌, ◌==◌, nat_le, not, length, map, take, drop, slice_index, true, false, IfOk, OnOk, OnErr};
-ghost use Rattle.srm_slate.specs.declared.missing.TheConstants.{NAMED};
+ghost use Rattle.std.specs.Prelude.{◌≡◌, ◌-◌, [], ◌∷◌, ◌++◌, ◌&&◌, ◌==◌, nat_le, not, length, take, drop, slice_index, true, false, IfOk, OnOk, OnErr};
 ghost use Rattle.srm_slate.specs.Happenings.{newest};
-ghost use Rattle.srm_slate.specs.Missing.{is_told_of, without_missing};
-ghost use Rattle.srm_slate.specs.Slates.{blank, happened, missed, gained, heard_from, told_from, Shows, StaysPrefix, KeepsPrefix};
+ghost use Rattle.srm_slate.specs.Slates.{blank, happened, gained, heard_from, is_hole, told_from, with_missing, Shows, StaysPrefix, KeepsPrefix};
 
 use crate::happening::Happening;
 use crate::happenings::Happenings;
+use crate::hole::{Hole, NAMED};
 use crate::look::{Counts, Look};
-use crate::missing::Missing;
 use crate::taken::{Taken, copies};
-use indexmap::IndexMap;
-use srm_names::{MEMBERS, Member, Name, PageMsg, Stream};
+use srm_names::{MEMBERS, Member, Name, PageMsg};
 use std::alloc::{AllocError, Global};
 use std::marker::Model;
 
@@ -25,10 +22,10 @@ pub struct Record {
     alloc: Global,
     taken: Vec<Taken>,
     is_lossy: bool,
-    missing: Missing,
+    // How many drawops the member misses, and the first of them, as it answered last.
+    missing: u32,
+    holes: Vec<Hole>,
     happenings: Happenings,
-    // Of each stream the greatest number that came.
-    reached: IndexMap<Stream, u32>,
     counts: Counts,
     // The datagrams that came from each member.
     heard: [u64; MEMBERS as usize],
@@ -41,7 +38,7 @@ impl Model for Record {
 
     ghost Value = { RecordView };
 
-    ghost view = { λ r. record { taken = r.taken.items; is_lossy = r.is_lossy; missing = r.missing; happenings = r.happenings; counts = r.counts; heard = r.heard; is_stale = r.is_stale; has_ended = r.has_ended } };
+    ghost view = { λ r. record { taken = r.taken.items; is_lossy = r.is_lossy; missing = r.missing; holes = r.holes.items; happenings = r.happenings; counts = r.counts; heard = r.heard; is_stale = r.is_stale; has_ended = r.has_ended } };
 }
 
 impl Record {
@@ -53,9 +50,9 @@ impl Record {
             alloc,
             taken: Vec::new(alloc),
             is_lossy: false,
-            missing: Missing::new(alloc),
+            missing: 0,
+            holes: Vec::new(alloc),
             happenings: Happenings::new(alloc),
-            reached: IndexMap::new(alloc),
             counts: Counts::default(),
             heard: [0; MEMBERS as usize],
             is_stale: false,
@@ -90,7 +87,7 @@ impl Record {
         ensures told { IfOk result (λ look. look.taken.items ≡ told_from from self.now.taken) }
         ensures prefix { IfOk result (λ look. KeepsPrefix from self.now.taken look.taken.items) }
         ensures happenings { IfOk result (λ look. look.happenings.items ≡ newest (self.now.happenings.count - seen) self.now.happenings.kept) }
-        ensures holes { IfOk result (λ look. map (λ h. h.0) look.holes.items ≡ take NAMED self.now.missing.names) }
+        ensures holes { IfOk result (λ look. look.holes.items ≡ self.now.holes) }
         ensures standing { IfOk result (Shows self.now) }
     {
         let taken = copies(self.alloc, told(self.taken.as_slice(), from))?;
@@ -98,9 +95,8 @@ impl Record {
             taken,
             happenings: self.happenings.behind(seen)?,
             happened: self.happenings.count(),
-            missing: self.missing.len(),
-            has_more: self.missing.has_more(),
-            holes: self.holes()?,
+            missing: self.missing,
+            holes: Vec::from_slice(self.alloc, self.holes.as_slice())?,
             counts: self.counts,
             heard: self.heard,
             is_lossy: self.is_lossy,
@@ -116,53 +112,33 @@ impl Record {
         self.taken.len() <= from && self.happenings.count() == seen && !self.has_ended
     }
 
-    // The first missing drawops, each with the greatest number that came of its stream.
-    fn holes(&self) -> Result<Vec<(Name, u32)>, AllocError>
-        ensures { IfOk result (λ holes. map (λ h. h.0) holes.items ≡ take NAMED self.now.missing.names) }
+    /// Shows from now on that the member misses so many drawops, the first of them by name; what was shown as missing before isn't any more. Of more than 64 names the first 64
+    /// are shown.
+    pub fn show_missing(&mut self, count: u32, holes: Vec<Hole>)
+        ensures { self.new ≡ with_missing count holes.items self.old }
     {
-        let mut holes = Vec::new(self.alloc);
-        for name in self.missing.first() {
-            holes.push((*name, self.reach_of(name.stream())))?;
-        }
-        Ok(holes)
+        let mut holes = holes;
+        holes.truncate(NAMED);
+        self.missing = count;
+        self.holes = holes;
     }
 
-    // The greatest number that came of a stream, or 0.
-    fn reach_of(&self, stream: Stream) -> u32 {
-        self.reached.get(&stream).copied().unwrap_or(0)
-    }
-
-    /// Notes that a drawop was found missing, once or again. Fails only if out of memory: then no [`Happening`] is added, and the name is among the missing, or
-    /// [`Look::has_more`] is set.
-    pub fn miss(&mut self, name: Name) -> Result<(), AllocError>
-        ensures ok { OnOk result (self.new ≡ missed name self.old) }
-        ensures told { is_told_of self.new.missing name ≡ true }
-        ensures err { OnErr result (self.new ≡ record self.old { missing = self.new.missing }) }
-    {
-        if self.missing.add(name)? {
-            self.happen(Happening::Missed(name))?;
-        }
-        Ok(())
-    }
-
-    /// Notes that a drawop came in a datagram of this member. If it was missing, a [`Happening`] says so. Fails only if out of memory: then none does.
+    /// Notes that a drawop came in a datagram of this member. If it is shown as missing by name, a [`Happening`] says so. Fails only if out of memory, and then nothing has changed.
     pub fn gain(&mut self, name: Name, by: Member) -> Result<(), AllocError>
         ensures ok { OnOk result (self.new ≡ gained name by self.old) }
-        ensures err { OnErr result (self.new ≡ record self.old { missing = without_missing name self.old.missing }) }
+        ensures err { OnErr result (self.new ≡ self.old) }
     {
-        self.reach(name);
-        if self.missing.remove(name) {
+        if self.is_hole(name) {
             self.happen(Happening::Gained(name, by))?;
         }
         Ok(())
     }
 
-    // A drawop of this name came.
-    fn reach(&mut self, name: Name)
-        ensures { self.new ≡ self.old }
+    // Whether a drawop is shown as missing by name.
+    fn is_hole(&self, name: Name) -> bool
+        ensures { result ≡ is_hole name self.now.holes }
     {
-        let reached = self.reach_of(name.stream()).max(name.number());
-        let _ = self.reached.insert(name.stream(), reached);
+        self.holes.iter().any(|hole| hole.name == name)
     }
 
     /// Adds what befell the member; the last 256 are kept. Fails only if out of memory, and then nothing has changed.

@@ -5,7 +5,7 @@ use crate::asking::{seen_in, stroke_in};
 use crate::door::Face;
 use crate::easel::{Drawn, Easel};
 use crate::guard::{Judged, Wish};
-use crate::page::{PAGE, POLICY};
+use crate::page::{POLICY, put_page};
 use crate::slate::Slate;
 use crate::telling::text_of;
 use bytes::{BufMut, Bytes};
@@ -151,7 +151,7 @@ fn show_page(response: &mut Response) -> Result<(), AllocError> {
         HeaderValue::from_static("text/html; charset=utf-8"),
     )?;
     response.add_header(CONTENT_SECURITY_POLICY, HeaderValue::from_static(POLICY))?;
-    response.body.push(Bytes::from_static(PAGE.as_bytes()))
+    put_page(&mut response.body)
 }
 
 // What stands on each answer: nothing is stored, guessed, framed or read by another site.

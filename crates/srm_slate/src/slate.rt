@@ -1,12 +1,31 @@
 //! What there is to show, which the member's threads write and those of the browsers read.
 
+ghost use Rattle.std.specs.Prelude.{◌≡◌};
+
 use crate::look::Look;
 use crate::record::Record;
 use srm_names::PageMsg;
 use std::alloc::{AllocError, Global};
+use std::marker::Model;
+use std::snapshot::Snapshot;
 use std::sync::atomic::{AtomicBool, Ordering};
 use std::sync::{Condvar, CondvarTimeouts, Mutex, MutexGuard, Wait};
 use std::time::{Clock, Duration};
+
+/// A message that a slate was passed, and the page slot whose worker took it, for contracts alone. Nobody but a slate makes one.
+#[derive(Drop)]
+pub struct Shown {
+    slot: u8,
+    message: Snapshot<PageMsg>,
+}
+
+impl Model for Shown {
+    ghost use Rattle.srm_slate.specs.ShownView.{ShownView};
+
+    ghost Value = { ShownView };
+
+    ghost view = { λ shown. record { slot = shown.slot; message = shown.message.value } };
+}
 
 /// A [`Record`] under a lock, and who waits for more of it.
 #[derive(Drop)]
@@ -26,8 +45,8 @@ impl Slate {
         }
     }
 
-    /// Locks what there is to show. A caller that adds what befell the member drops the lock and then calls [`tell`](Slate::tell). Counts need no call: a browser
-    /// asks again before long.
+    /// Locks what there is to show. A caller that adds what befell the member drops the lock and then calls [`tell`](Slate::tell). Counts and what is missing need no
+    /// call: a browser asks again before long.
     pub fn lock<'a, R: Wait>(&'a self, rt: &R) -> MutexGuard<'a, Record> {
         self.record.lock(rt)
     }
@@ -38,11 +57,17 @@ impl Slate {
     }
 
     /// Adds a message that the worker of a page slot, 0 to 7, took, and wakes the browsers that wait. It can't fail: if out of memory, the record notes that it is
-    /// lossy, and keeps no later message.
-    pub fn take<R: Wait>(&self, rt: &R, slot: u8, message: &PageMsg) {
+    /// lossy, and keeps no later message. Returns that it was passed this message.
+    pub fn take<R: Wait>(&self, rt: &R, slot: u8, message: &PageMsg) -> Shown
+        ensures { result ≡ record { slot = slot; message = message.now } }
+    {
         // Out of memory: the record says so itself.
         let _ = self.lock(rt).take(slot, message);
         self.tell();
+        Shown {
+            slot,
+            message: Snapshot::of(message),
+        }
     }
 
     /// Notes that the member's run has ended, and wakes the browsers that wait.

@@ -2,6 +2,7 @@
 
 use crate::door::Face;
 use crate::happening::Happening;
+use crate::hole::Hole;
 use crate::look::{Counts, Look};
 use crate::taken::Taken;
 use srm_names::{Name, Page, PageMsg};
@@ -40,7 +41,6 @@ impl fmt::Display for Told<'_> {
 fn write_standing<W: fmt::Write>(f: &mut fmt::Formatter<W>, look: &Look) -> fmt::Result {
     write!(f, "\"happened\":{},", look.happened)?;
     write!(f, "\"missing\":{},", look.missing)?;
-    write!(f, "\"more\":{},", look.has_more)?;
     write!(f, "\"lossy\":{},", look.is_lossy)?;
     write!(f, "\"stale\":{},", look.is_stale)?;
     write!(f, "\"ended\":{},", look.has_ended)
@@ -74,26 +74,26 @@ fn write_heard<W: fmt::Write>(
     f.write_str("],")
 }
 
-fn write_holes<W: fmt::Write>(f: &mut fmt::Formatter<W>, holes: &[(Name, u32)]) -> fmt::Result {
+fn write_holes<W: fmt::Write>(f: &mut fmt::Formatter<W>, holes: &[Hole]) -> fmt::Result {
     f.write_str("\"holes\":[")?;
     for (place, hole) in holes.iter().enumerate() {
         write_gap(f, place)?;
         f.write_char('[')?;
-        write_name(f, hole.0)?;
+        write_name(f, hole.name)?;
         f.write_char(']')?;
     }
     f.write_str("],")
 }
 
 // How far each stream came that has a hole.
-fn write_reaches<W: fmt::Write>(f: &mut fmt::Formatter<W>, holes: &[(Name, u32)]) -> fmt::Result {
+fn write_reaches<W: fmt::Write>(f: &mut fmt::Formatter<W>, holes: &[Hole]) -> fmt::Result {
     f.write_str("\"reaches\":[")?;
     for (place, hole) in holes.iter().enumerate() {
         write_gap(f, place)?;
-        let stream = hole.0.stream();
+        let stream = hole.name.stream();
         write!(f, "[{},", stream.source.number())?;
         write_page(f, stream.page)?;
-        write!(f, ",{}]", hole.1)?;
+        write!(f, ",{}]", hole.reach)?;
     }
     f.write_str("],")
 }
