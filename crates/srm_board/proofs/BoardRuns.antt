@@ -8,6 +8,7 @@ use Rattle.srm_names.specs.PageFeeds.{is_close}
 use Rattle.srm_pages.specs.Ends.{TapView, PenView}
 use Rattle.srm_control.specs.Ends.{ControlView, new_commands}
 use Rattle.srm_udp.specs.Resting.{new_rested}
+use Rattle.srm_guard.specs.Seals.{SealView}
 use Rattle.srm_guarded.specs.Guarding.{guarded_wire}
 use Rattle.srm_options.specs.declared.node_options.NodeOptions.{NodeOptions}
 use Rattle.srm_node.specs.declared.fault.NodeFault.{NodeFault}
@@ -17,52 +18,74 @@ use Rattle.srm_node.specs.declared.working.Worked.{Worked}
 use Rattle.srm_node.specs.Calls.{Calls}
 use Rattle.srm_node.specs.Nodes.{NodeView, NodeState}
 use Rattle.srm_node.specs.Hosting.{Kinds, HostsWith}
-use Rattle.srm_member.specs.Stations.{HasNewEnds, IsNewStation}
-use Rattle.srm_member.specs.Statuses.{fault_of_lists, fault_of}
+use Rattle.srm_world.specs.Traces.{Journal}
+use Rattle.srm_world.specs.RecordStarts.{RecordStart}
+use Rattle.srm_record.specs.Begun.{IsRecorded}
+use Rattle.srm_member.specs.declared.fault.MemberFault.{MemberFault}
+use Rattle.srm_member.specs.Stations.{BeginsIn, HasNewEnds, IsNewStation}
+use Rattle.srm_member.specs.Statuses.{fault_of_lists, fault_of, IsRecordedEnd}
 use Rattle.srm_member.specs.WholeRuns.{IsWholeHost, TakePrefixes}
 use Rattle.srm_member.proofs.MemberRuns.{status_of_some}
-use Rattle.srm_member.proofs.WholeRuns.{hosted_whole, whole_host}
+use Rattle.srm_member.proofs.WholeRuns.{hosted_whole, whole_host_ends}
 use Rattle.srm_member.proofs.WholeTakes.{of_lists, lists_closed}
 use Rattle.srm_live.specs.LiveMembers.{MemberNode}
+use Rattle.srm_live.proofs.Recorded as live
 use Rattle.srm_board.specs.declared.board_fault.BoardFault.{BoardFault}
 use Rattle.srm_board.specs.declared.board_fault.BoardFault.TheVariants.{Member, Serving}
 use Rattle.srm_board.specs.BoardRuns.{IsBoardStation, MayHaveControl}
 use Rattle.srm_board.specs.BoardStatuses.{status_of_board}
 
 -- without a fault the node ran to its end, and its workers took all that its journal gave
-pub board_run : {P L S X C : Type 0} (calls : Calls X C) (kinds : Kinds L S) (turns : ℕ) (node : NodeView X C) (taps : List TapView) (pens : List PenView) (sinks : List S) (left : NodeEnds) (h : Hosted P L) (lacks closed : Bool) (Fails : NodeFault → Type 0)
+pub board_run : {P L S X C F : Type 0} (calls : Calls X C) (kinds : Kinds L S) (turns : ℕ) (node : NodeView X C) (taps : List TapView) (pens : List PenView) (sinks : List S) (left : NodeEnds) (h : Hosted P L) (lacks closed : Bool) (Fails : NodeFault → Type 0) (contents : F → Option (List ℕ)) (begins : Option RecordStart) (file : Option F)
     → HasNewEnds node taps pens → length sinks ≡ PAGES → MatchResult h.end (λ _. HostsWith calls kinds node (zip taps sinks) turns left h) Fails
     → closed ≡ list_all (λ (w : Worked L). list_any is_close (kinds.entries w.list)) h.worked.items → fault_of_lists (fault_of h.end lacks) closed ≡ None → TakePrefixes h.feeds.items (map (λ (w : Worked L). w.tap) h.worked.items)
-    → (took : List (List PageMsg)) × IsWholeHost calls turns node took
-board_run {P} {L} calls kinds turns node taps pens sinks left h lacks closed Fails ends count ran closed_is none takes =
+    → IsRecorded contents begins h.history.journal.entries (map (λ (w : Worked L). kinds.entries w.list) h.worked.items) file
+    → (took : List (List PageMsg)) × (whole : IsWholeHost calls turns node took) × (last_file : Option F) × IsRecorded contents begins whole.last.journal.entries took last_file
+board_run {P} {L} calls kinds turns node taps pens sinks left h lacks closed Fails contents begins file ends count ran closed_is none takes recorded =
     let host : HostsWith calls kinds node (zip taps sinks) turns left h = hosted_whole h.end lacks _ _ (of_lists _ _ _ refl none) ran in
     let all : list_all (λ (w : Worked L). list_any is_close (kinds.entries w.list)) h.worked.items ≡ true = sym closed_is ∙ lists_closed _ _ _ refl none in
-    (map (λ (w : Worked L). kinds.entries w.list) h.worked.items, whole_host calls kinds turns node taps pens sinks left h ends count host takes all)
+    let (whole, well_is, control_is, journal_is) = whole_host_ends calls kinds turns node taps pens sinks left h ends count host takes all in
+    (map (λ (w : Worked L). kinds.entries w.list) h.worked.items, whole, file, subst (λ (j : Journal). IsRecorded contents begins j.entries (map (λ (w : Worked L). kinds.entries w.list) h.worked.items) file) journal_is recorded)
+
+-- what ended the run is told, and of a whole run what befell its record
+pub of_fault : (run told : Option MemberFault) (f : MemberFault) → run ≡ Some f → told ≡ Some f → IsRecordedEnd run told
+of_fault = live.of_fault
+
+pub of_record : (run told : Option MemberFault) → run ≡ None → IsRecordedEnd None told → IsRecordedEnd run told
+of_record = live.of_record
 
 -- THE STATION
 
 -- a node that did nothing has no control
-pub no_control : (options : NodeOptions) (key : Option (List ℕ)) (node : MemberNode) (taps : List TapView) (pens : List PenView)
-    → IsNewStation options.config 0 None (new_rested (guarded_wire options.addresses.items options.guard key)) node taps pens → node.control ≡ None
-no_control options key node taps pens new = ap (λ (n : MemberNode). n.control) new.new.is
+pub no_control : (options : NodeOptions) (seal : Option SealView) (node : MemberNode) (taps : List TapView) (pens : List PenView)
+    → IsNewStation options.config 0 options.guard.most_missing None (new_rested (guarded_wire options.addresses.items options.guard seal)) node taps pens → node.control ≡ None
+no_control options seal node taps pens new = ap (λ (n : MemberNode). n.control) new.new.is
 
 -- so it may have the one that it is given
 pub gets_control : {W X C : Type 0} (old new : NodeState W X C) (control : ControlView) → new ≡ record old { view = record old.view { control = Some (new_commands control.out control.back) } } → MayHaveControl old.view new.view
 gets_control {W} {X} {C} old new control is = (Some (new_commands control.out control.back), refl, ap (λ (n : NodeState W X C). n.view) is)
 
+pub same_begins : {W X C : Type 0} (old new : NodeState W X C) (control : ControlView) → new ≡ record old { view = record old.view { control = Some (new_commands control.out control.back) } } → new.begins ≡ old.begins
+same_begins {W} {X} {C} old new control is = ap (λ (n : NodeState W X C). n.begins) is
+
+-- with a control its record begins as without
+pub still_begins : {F : Type 0} (contents : F → Option (List ℕ)) (file : Option F) (seed : ℕ) (first node : MemberNode) (begins now : Option RecordStart) → MayHaveControl first node → now ≡ begins → BeginsIn contents file seed first.journal.start begins → BeginsIn contents file seed node.journal.start now
+still_begins contents file seed first node begins now (control, fresh, is) same began =
+    subst (λ (n : MemberNode). BeginsIn contents file seed n.journal.start now) (sym is) (subst (λ (b : Option RecordStart). BeginsIn contents file seed first.journal.start b) (sym same) began)
+
 -- and the ends of one that was given a control are new
-pub board_ends : (options : NodeOptions) (key : Option (List ℕ)) (node : MemberNode) (taps : List TapView) (pens : List PenView) → IsBoardStation options key node taps pens → HasNewEnds node taps pens
-board_ends options key node taps pens station =
+pub board_ends : (options : NodeOptions) (seal : Option SealView) (node : MemberNode) (taps : List TapView) (pens : List PenView) → IsBoardStation options seal node taps pens → HasNewEnds node taps pens
+board_ends options seal node taps pens station =
     let (control, fresh, is) = station.controlled in
     let h = station.new.ends in
     let here : HasNewEnds (record station.first { control = control }) taps pens = record { slots = h.slots; lanes = h.lanes; new_taps = h.new_taps; count = h.count; new_pens = h.new_pens } in
     subst (λ (n : MemberNode). HasNewEnds n taps pens) (sym is) here
 
-pub board_station : (options : NodeOptions) (key : Option (List ℕ)) (first node : MemberNode) (taps now_taps : List TapView) (pens now_pens : List PenView)
-    → IsNewStation options.config 0 None (new_rested (guarded_wire options.addresses.items options.guard key)) first taps pens → MayHaveControl first node → now_taps ≡ taps → now_pens ≡ pens → IsBoardStation options key node now_taps now_pens
-board_station options key first node taps now_taps pens now_pens new controlled taps_are pens_are =
-    let here : IsBoardStation options key node taps pens = record { first = first; new = new; controlled = controlled } in
-    subst (λ ts. IsBoardStation options key node ts now_pens) (sym taps_are) (subst (IsBoardStation options key node taps) (sym pens_are) here)
+pub board_station : (options : NodeOptions) (seal : Option SealView) (first node : MemberNode) (taps now_taps : List TapView) (pens now_pens : List PenView)
+    → IsNewStation options.config 0 options.guard.most_missing None (new_rested (guarded_wire options.addresses.items options.guard seal)) first taps pens → MayHaveControl first node → now_taps ≡ taps → now_pens ≡ pens → IsBoardStation options seal node now_taps now_pens
+board_station options seal first node taps now_taps pens now_pens new controlled taps_are pens_are =
+    let here : IsBoardStation options seal node taps pens = record { first = first; new = new; controlled = controlled } in
+    subst (λ ts. IsBoardStation options seal node ts now_pens) (sym taps_are) (subst (IsBoardStation options seal node taps) (sym pens_are) here)
 
 -- THE STATUS
 

@@ -4,10 +4,11 @@ use Rattle.srm_names.specs.declared.page_msg.PageMsg.{PageMsg}
 use Rattle.srm_pages.specs.Ends.{TapView, PenView}
 use Rattle.srm_control.specs.Ends.{CommandsView, new_commands}
 use Rattle.srm_udp.specs.Resting.{new_rested}
-use Rattle.srm_guarded.specs.Guarding.{guarded_wire}
+use Rattle.srm_guard.specs.Seals.{SealView}
+use Rattle.srm_guarded.specs.Guarding.{IsSealBy, guarded_wire}
 use Rattle.srm_options.specs.declared.node_options.NodeOptions.{NodeOptions}
 use Rattle.srm_node.specs.Nodes.{NodeView}
-use Rattle.srm_member.specs.MemberRuns.{member_calls}
+use Rattle.srm_member.specs.MemberRuns.{IsStoredIf, member_calls}
 use Rattle.srm_member.specs.Stations.{IsNewStation}
 use Rattle.srm_member.specs.WholeRuns.{IsWholeHost}
 use Rattle.srm_live.specs.LiveMembers.{MemberNode}
@@ -16,21 +17,26 @@ use Rattle.srm_live.specs.LiveMembers.{MemberNode}
 abbrev pub MayHaveControl : {X C : Type 0} → NodeView X C → NodeView X C → Type 0
 MayHaveControl old new = (control : Option CommandsView) × IfSome control (λ c. c ≡ new_commands c.out c.back) × (new ≡ record old { control = control })
 
--- A node of a member with these options did nothing yet, over its own wire with this key, and is to leave as soon as its producers are done. It may have a control.
-pub record IsBoardStation (options : NodeOptions) (key : Option (List ℕ)) (node : MemberNode) (taps : List TapView) (pens : List PenView) : Type 0 where
+-- A node of a member with these options did nothing yet, over its own wire with this seal, and is to leave as soon as its producers are done. It may have a control.
+pub record IsBoardStation (options : NodeOptions) (seal : Option SealView) (node : MemberNode) (taps : List TapView) (pens : List PenView) : Type 0 where
   pub first : MemberNode
-  pub new : IsNewStation options.config 0 None (new_rested (guarded_wire options.addresses.items options.guard key)) first taps pens
+  pub new : IsNewStation options.config 0 options.guard.most_missing None (new_rested (guarded_wire options.addresses.items options.guard seal)) first taps pens
   pub controlled : MayHaveControl first node
 
--- Such a node ran to its end, and its page workers took all that its journal gave.
-pub record RunsWithKey (options : NodeOptions) (key : Option (List ℕ)) : Type 0 where
+-- Such a node ran to its end, and its page workers took all that its journal gave. The file that was opened for its record, if one was, has all of it.
+pub record RunsWithSeal {F : Type 0} (contents : F → Option (List ℕ)) (opened : Option F) (options : NodeOptions) (seal : Option SealView) : Type 0 where
   pub node : MemberNode
   pub taps : List TapView
   pub pens : List PenView
-  pub station : IsBoardStation options key node taps pens
+  pub station : IsBoardStation options seal node taps pens
   pub took : List (List PageMsg)
   pub whole : IsWholeHost member_calls options.turns node took
+  pub stored : IsStoredIf contents (is_some opened) options.seed node.journal.start whole.last.journal.entries took
 
--- And it had a key if its options name a file of one.
-abbrev pub IsWholeBoardRun : NodeOptions → Type 0
-IsWholeBoardRun options = (key : Option (List ℕ)) × (is_some key ≡ is_some options.guard.key) × RunsWithKey options key
+-- Such a node has a new seal by this key, if there is one.
+abbrev pub RunsWithKey : {F : Type 0} → (F → Option (List ℕ)) → Option F → NodeOptions → Option (List ℕ) → Type 0
+RunsWithKey contents opened options key = (seal : Option SealView) × IsSealBy key options.config.me seal × RunsWithSeal contents opened options seal
+
+-- And it had a key if its options name a file of one, and a record if they name a file for it.
+abbrev pub IsWholeBoardRun : {F : Type 0} → (F → Option (List ℕ)) → NodeOptions → Type 0
+IsWholeBoardRun {F} contents options = (key : Option (List ℕ)) × (is_some key ≡ is_some options.guard.key) × (opened : Option F) × (is_some opened ≡ is_some options.«record») × RunsWithKey contents opened options key

@@ -1,49 +1,53 @@
 //! The station of a board's member, at the member's address.
 
 ghost use Rattle.std.specs.Prelude.{◌≡◌, [], None, IfOk};
+ghost use Rattle.srm_member.specs.Stations.{BeginsIn};
 ghost use Rattle.srm_board.specs.BoardRuns.{IsBoardStation, MayHaveControl};
 
 use crate::preparing::Shared;
 use crate::turning::Turning;
 use crate::watching::Watching;
 use srm_agent::Entry;
-use srm_guard::Key;
-use srm_guarded::{Guarded, Published, bind_guarded};
-use srm_live::{CountedWire, Needed};
+use srm_guard::{Guard, Seal};
 use srm_member::{MemberFault, Noting, Station};
 use srm_options::NodeOptions;
+use srm_record::Written;
 use srm_script::ScriptFault;
-use srm_udp::Rested;
+use srm_udp::{Rested, UdpWire};
 use srm_wire::Wire;
 use srm_world::Past;
 use std::alloc::{AllocError, Global};
+use std::io::Write;
 use std::net::Net;
 use std::sync::{Arc, Wait};
-use std::{mem, time};
+use std::time;
 
 /// Binds the member to its own address, and makes its station: its node keeps no entry, shows each to the slate, and leaves as soon as its producers are done. Its wire
-/// has the guard that the options ask for, and `key`. Returns where the wire notes its first failure too.
+/// has the guard that the options ask for, and `seal`. Its entries go to `file`, if there is one. Returns where the wire notes its first failure too.
 ///
 /// Fails with [`MemberFault::Binding`] and the cause if the address can't be bound, with [`MemberFault::Wire`] if the clock can't be read, and if out of memory.
-pub fn bind<R>(
+pub fn bind<R, F>(
     rt: &R,
     alloc: Global,
     options: NodeOptions,
-    key: Option<Key>,
+    seal: Option<Seal>,
+    file: Option<F>,
     shared: &Shared,
 ) -> Result<
     (
-        Station<R, Rested<R, CountedWire>, Published<Needed<Watching<R>>>>,
+        Station<R, Rested<R, Guard<UdpWire>>, Written<F, Watching<R>>>,
         Noting,
     ),
     MemberFault,
 >
 where
     R: Net + time::Clock + Wait + Copy + Drop,
-    ensures { IfOk result (λ b. IsBoardStation options key b.0.node.view b.0.taps.items b.0.pens.items) }
+    F: Write + Drop,
+    ensures station { IfOk result (λ b. IsBoardStation options seal b.0.node.view b.0.taps.items b.0.pens.items) }
+    ensures begins { IfOk result (λ b. BeginsIn F.contents file options.seed b.0.node.view.journal.start b.0.node.begins) }
 {
     match watch(rt, alloc, shared) {
-        Ok(watching) => bind_watched(rt, alloc, options, key, shared, watching),
+        Ok(watching) => bind_watched(rt, alloc, options, seal, file, shared, watching),
         Err(_) => Err(MemberFault::Script(ScriptFault::Memory)),
     }
 }
@@ -58,56 +62,40 @@ fn watch<R: Wait + Copy + Drop>(
 {
     let slate = Arc::try_clone(&shared.slate)?;
     let turning = Arc::try_clone(&shared.turning)?;
+    let need = Arc::try_clone(&shared.need)?;
     let tally = Arc::try_clone(&shared.tally)?;
-    Ok(Watching::new(*rt, alloc, slate, turning, tally))
+    Ok(Watching::new(*rt, alloc, slate, turning, need, tally))
 }
 
-#[tactic(auto, using(crate::proofs::BoardRuns::no_control, crate::proofs::BoardRuns::board_station))]
-fn bind_watched<R>(
+fn bind_watched<R, F>(
     rt: &R,
     alloc: Global,
     options: NodeOptions,
-    key: Option<Key>,
+    seal: Option<Seal>,
+    file: Option<F>,
     shared: &Shared,
     watching: Watching<R>,
 ) -> Result<
     (
-        Station<R, Rested<R, CountedWire>, Published<Needed<Watching<R>>>>,
+        Station<R, Rested<R, Guard<UdpWire>>, Written<F, Watching<R>>>,
         Noting,
     ),
     MemberFault,
 >
 where
     R: Net + time::Clock + Wait + Copy + Drop,
+    F: Write + Drop,
     requires { watching.past ≡ [] }
-    ensures { IfOk result (λ b. IsBoardStation options key b.0.node.view b.0.taps.items b.0.pens.items) }
+    ensures station { IfOk result (λ b. IsBoardStation options seal b.0.node.view b.0.taps.items b.0.pens.items) }
+    ensures begins { IfOk result (λ b. BeginsIn F.contents file options.seed b.0.node.view.journal.start b.0.node.begins) }
 {
     let mut options = options;
     options.stay = 0;
-    let addresses = mem::replace(&mut options.addresses, Vec::new(alloc));
-    let me = options.config.me();
-    let Some(own) = addresses.get(me.index()).copied() else {
-        return Err(MemberFault::Wire);
-    };
-    match bind_guarded(rt, alloc, options.config, &options.guard, key, addresses) {
-        Ok(
-            Guarded {
-                wire,
-                waker,
-                known,
-                failure,
-            },
-        ) => {
-            let wire = CountedWire::new(wire, Arc::try_clone(&shared.tally).ok());
-            let wire = Rested::new(*rt, wire);
-            let past = Needed::new(alloc, watching, Arc::try_clone(&shared.need).ok());
-            let past = Published::new(alloc, past, known);
-            match Station::with_past(rt, alloc, &options, wire, waker, past) {
-                Ok(station) => Ok((connect(rt, alloc, station, &shared.turning), failure)),
-                Err(fault) => Err(fault),
-            }
-        }
-        Err(error) => Err(MemberFault::of_bind(own, error)),
+    // The cause of a failed bind or call is always told.
+    options.verbose = true;
+    match Station::bind(rt, alloc, options, seal, file, watching) {
+        Ok((station, noting)) => Ok((connect(rt, alloc, station, &shared.turning), noting)),
+        Err(fault) => Err(fault),
     }
 }
 
@@ -124,6 +112,7 @@ where
     P: Past<Entry> + Drop,
     requires { station.node.view.control ≡ None }
     ensures node { MayHaveControl station.node.view result.node.view }
+    ensures begins { result.node.begins ≡ station.node.begins }
     ensures taps { result.taps.items ≡ station.taps.items }
     ensures pens { result.pens.items ≡ station.pens.items }
 {

@@ -1,6 +1,6 @@
 //! The node of a board's member, its page workers, and the threads that serve the board.
 
-ghost use Rattle.std.specs.Prelude.{◌≡◌, List, None, map, vec_len, IfOk};
+ghost use Rattle.std.specs.Prelude.{◌≡◌, List, Option, None, map, vec_len, IfOk};
 ghost use Rattle.std.specs.List.{list_all, list_any};
 ghost use Rattle.srm_names.specs.declared.limits.TheConstants.{PAGES};
 ghost use Rattle.srm_names.specs.declared.page_msg.PageMsg.{PageMsg as AMessage};
@@ -8,20 +8,24 @@ ghost use Rattle.srm_node.specs.Calls.{calls_of};
 ghost use Rattle.srm_node.specs.Hosting.{AreEndsOfLanes};
 ghost use Rattle.srm_udp.specs.Clocks.{NeverFalls};
 ghost use Rattle.srm_member.specs.Stations.{HasNewEnds};
-ghost use Rattle.srm_member.specs.Statuses.{fault_of, fault_of_lists, lacks_memory};
-ghost use Rattle.srm_member.specs.TakenText.{has_close};
+ghost use Rattle.srm_member.specs.Statuses.{fault_of, fault_of_lists, lacks_memory, IsRecordedEnd};
+ghost use Rattle.srm_member.specs.TakenText.{has_close, lists_of};
+ghost use Rattle.srm_record.specs.Begun.{IsRecorded};
 ghost use Rattle.srm_member.specs.WholeRuns.{IsWholeHost, TakePrefixes};
 
 use crate::serving::{Ink, Opening, Serving, start_serving};
 use srm_agent::Entry;
-use srm_member::{MemberFault, Station, host_if, settle_lanes};
+use srm_live::unrecorded;
+use srm_member::{MemberFault, Station, end_record, host_if, settle_lanes};
 use srm_names::PageMsg;
 use srm_node::{Hosted, PageSink};
+use srm_record::Written;
 use srm_script::ScriptFault;
 use srm_slate::Slate;
 use srm_wire::Wire;
 use srm_world::Past;
 use std::alloc::Global;
+use std::fs::OpenFile;
 use std::io::{Read, Write};
 use std::net::Net;
 use std::random::RandomSource;
@@ -32,11 +36,11 @@ use std::time;
 /// Runs the node in this thread, and its page workers and the server of its board in threads beside it, until all have ended. `err` gets the address of the page once it
 /// is served. `turns` is how many turns the node has.
 ///
-/// Returns why the run wasn't whole; `None` if it was. Then the node ran to its end, and each worker took all that the node's journal gave in its slot.
-pub fn host<R, X, P, S, I, E: Write>(
+/// Returns why the run wasn't whole, or [`MemberFault::Record`] if it was and the file hasn't its whole record; `None` if it was and there is no file or it has. Then the node ran to its end, and each worker took all that the node's journal gave in its slot.
+pub fn host<R, X, F, P, S, I, E: Write>(
     rt: &R,
     alloc: Global,
-    station: Station<R, X, P>,
+    station: Station<R, X, Written<F, P>>,
     sinks: Vec<S>,
     turns: u64,
     opening: Opening<I>,
@@ -46,12 +50,13 @@ pub fn host<R, X, P, S, I, E: Write>(
 where
     R: Net + RandomSource + time::Clock + Threads + Wait + Copy + Send + Drop + 'static,
     X: Wire + Drop,
+    F: Write + OpenFile + Drop,
     P: Past<Entry> + Drop,
     S: PageSink + Send + Drop + 'static,
     I: Read + Send + Drop + 'static,
     requires new { HasNewEnds station.node.view station.taps.items station.pens.items }
     requires sinks { vec_len sinks ≡ PAGES }
-    ensures { result ≡ None → ((took : List (List AMessage)) × IsWholeHost (calls_of NeverFalls X.receives X.sends X.pauses) turns station.node.view took) }
+    ensures { result ≡ None → ((took : List (List AMessage)) × (whole : IsWholeHost (calls_of NeverFalls X.receives X.sends X.pauses) turns station.node.view took) × (file : Option F) × IsRecorded F.contents station.node.begins whole.last.journal.entries took file) }
 {
     let Station {
         node,
@@ -64,28 +69,36 @@ where
     slate.end(rt);
     join_if(rt, serving);
     match hosted {
-        Some((hosted, _)) => settle(hosted),
+        Some((hosted, _)) => settle(alloc, hosted),
         None => Some(MemberFault::Script(ScriptFault::Memory)),
     }
 }
 
-// Why the run wasn't whole. If it was, both ends of each lane were put together.
-fn settle<P: Past<Entry> + Drop>(hosted: Hosted<P, Vec<PageMsg>>) -> Option<MemberFault>
+// Why the run wasn't whole, or that its record isn't. If the run was, both ends of each lane were put together.
+#[tactic(auto, using(crate::proofs::BoardRuns::of_fault, crate::proofs::BoardRuns::of_record))]
+fn settle<F: Write + OpenFile + Drop, P: Past<Entry> + Drop>(
+    alloc: Global,
+    hosted: Hosted<Written<F, P>, Vec<PageMsg>>,
+) -> Option<MemberFault>
     requires { IfOk hosted.end (λ _. AreEndsOfLanes hosted.feeds.items (map (λ w. w.tap) hosted.worked.items)) }
-    ensures fault { result ≡ fault_of_lists (fault_of hosted.end (list_any lacks_memory hosted.worked.items)) (list_all has_close hosted.worked.items) }
+    ensures fault { IsRecordedEnd (fault_of_lists (fault_of hosted.end (list_any lacks_memory hosted.worked.items)) (list_all has_close hosted.worked.items)) result }
     ensures takes { result ≡ None → TakePrefixes hosted.feeds.items (map (λ w. w.tap) hosted.worked.items) }
+    ensures recorded { result ≡ None → ((file : Option F) × IsRecorded F.contents hosted.history.begins hosted.history.journal.entries (lists_of hosted.worked.items) file) }
 {
     let Hosted {
+        history,
         feeds,
         worked,
         end,
-        ..
+        left,
     } = hosted;
+    drop(left);
+    let recorded = end_record(alloc, history, worked.as_slice());
     match MemberFault::of_whole_run(end, worked.as_slice()) {
         Some(fault) => Some(fault),
         None => {
             settle_lanes(feeds, worked);
-            None
+            unrecorded(recorded)
         }
     }
 }

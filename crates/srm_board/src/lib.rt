@@ -8,13 +8,14 @@
 //! The member's node runs in the calling thread, its eight page workers and the server of its board in threads beside it. What the workers take goes to a
 //! [`Slate`](srm_slate::Slate), which browsers are shown. What is drawn in browsers goes to one producer, which all of them share.
 //!
-//! **Errors**, in this order: a key file that can't be used, an HTTP address that can't be bound, the member's own address that can't, and what ends a run.
+//! **Errors**, in this order: a key file that can't be used, a record whose file can't be made, an HTTP address that can't be bound, the member's own address that can't, what ends a run, and a record that isn't whole.
 //! [`BoardFault`] has the text and the status of each.
 #![tactic(auto)]
 
 mod binding;
 mod board_fault;
 mod boarding;
+mod first_missing;
 mod hosting;
 mod inkwell;
 mod leaving;

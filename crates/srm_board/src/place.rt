@@ -1,10 +1,12 @@
 //! Where a board is served.
 
-use srm_slate::{Guard, new_token};
+ghost use Rattle.std.specs.Prelude.{◌≡◌, ◌↔◌, ◌++◌, true, false, codes, string_bytes, IfOk, IsTrue};
+ghost use Rattle.srm_board.specs.Places.{IsAnywhere, IsTokenRoot};
+
+use srm_slate::{Guard, TokenSource, new_token};
 use std::alloc::{AllocError, Global};
 use std::io;
 use std::net::SocketAddr;
-use std::random::RandomSource;
 
 /// Where a board is served, and whether a token stands in the address of its page.
 #[derive(Clone, Copy, Debug, PartialEq, Eq)]
@@ -17,18 +19,32 @@ pub struct Place {
 const USUAL_PORT: u16 = 80;
 
 impl Place {
-    /// What the paths of its server begin with: `/`, or with a new token `/TOKEN/`.
-    pub fn new_root<R: RandomSource>(&self, rt: &R, alloc: Global) -> io::Result<String> {
-        if !self.has_token {
-            return Ok(String::from_str(alloc, "/")?);
+    /// What the paths of its server begin with: `/`, or with a new token of this source `/TOKEN/`.
+    pub fn new_root<S: TokenSource>(&self, source: &S, alloc: Global) -> io::Result<String>
+        ensures token { self.now.has_token ≡ true → IfOk result (λ root. IsTokenRoot (S.gives source.now) (string_bytes root)) }
+        ensures bare { self.now.has_token ≡ false → IfOk result (λ root. string_bytes root ≡ codes "/") }
+    {
+        if self.has_token {
+            token_root(source, alloc)
+        } else {
+            Ok(String::from_str(alloc, "/")?)
         }
-        let token = new_token(rt, alloc)?;
-        Ok(format!(in alloc; "/{token}/")?)
     }
 
     /// Who may ask there. A server at every address of the machine answers to any name: then the token alone says who may ask.
-    pub fn guard(&self, alloc: Global, root: String) -> Result<Guard, AllocError> {
-        Ok(Guard::new(self.hosts(alloc)?, self.http.ip().is_unspecified(), root))
+    pub fn guard(&self, alloc: Global, root: String) -> Result<Guard, AllocError>
+        ensures anywhere { IfOk result (λ g. IsTrue g.is_anywhere ↔ IsAnywhere self.now.http) }
+        ensures root { IfOk result (λ g. g.root ≡ string_bytes root) }
+    {
+        let hosts = self.hosts(alloc)?;
+        Ok(Guard::new(hosts, self.is_anywhere(), root))
+    }
+
+    // Whether it is served at every address of the machine.
+    fn is_anywhere(&self) -> bool
+        ensures { IsTrue result ↔ IsAnywhere self.now.http }
+    {
+        self.http.ip().is_unspecified()
     }
 
     // The names that browsers may ask for: the address, and on this machine its usual name too.
@@ -46,4 +62,19 @@ impl Place {
         }
         Ok(hosts)
     }
+}
+
+// The root with a new token.
+fn token_root<S: TokenSource>(source: &S, alloc: Global) -> io::Result<String>
+    ensures { IfOk result (λ root. IsTokenRoot (S.gives source.now) (string_bytes root)) }
+{
+    let token = new_token(source, alloc)?;
+    Ok(root_of(alloc, token)?)
+}
+
+// The root with this token.
+fn root_of(alloc: Global, token: String) -> Result<String, AllocError>
+    ensures { IfOk result (λ root. string_bytes root ≡ codes "/" ++ (string_bytes token ++ codes "/")) }
+{
+    format!(in alloc; "/{token}/")
 }

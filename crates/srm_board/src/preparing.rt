@@ -1,7 +1,8 @@
 //! What a board needs before its member does anything.
 
-ghost use Rattle.std.specs.Prelude.{◌≡◌, vec_len, IfOk};
+ghost use Rattle.std.specs.Prelude.{◌≡◌, ◌↔◌, true, vec_len, IfOk, IsTrue};
 ghost use Rattle.srm_names.specs.declared.limits.TheConstants.{PAGES};
+ghost use Rattle.srm_board.specs.Places.{IsAnywhere, IsTokenRoot};
 
 use crate::place::Place;
 use crate::serving::Endpoint;
@@ -9,7 +10,7 @@ use crate::slate_sink::{SlateSink, slate_sinks};
 use crate::turning::Turning;
 use srm_agent::Config;
 use srm_live::{Need, Tally};
-use srm_slate::{Face, Slate};
+use srm_slate::{Face, Slate, TokenSource};
 use std::alloc::{AllocError, Global};
 use std::io;
 use std::net::{Net, TcpListener, TcpStream};
@@ -77,20 +78,24 @@ fn share(alloc: Global) -> Result<Shared, AllocError> {
 }
 
 // What the server shows of its member and to whom, and where its page is.
-fn face_of<R: RandomSource>(
-    rt: &R,
+fn face_of<S: TokenSource>(
+    source: &S,
     alloc: Global,
     place: Place,
     config: Config,
-) -> io::Result<(Face, String)> {
-    let root = place.new_root(rt, alloc)?;
+) -> io::Result<(Face, String)>
+    ensures root { place.has_token ≡ true → IfOk result (λ r. IsTokenRoot (S.gives source.now) r.0.guard.root) }
+    ensures anywhere { IfOk result (λ r. IsTrue r.0.guard.is_anywhere ↔ IsAnywhere place.http) }
+{
+    let root = place.new_root(source, alloc)?;
     let http = place.http;
     let address = format!(in alloc; "http://{http}{root}")?;
+    let guard = place.guard(alloc, root)?;
     let face = Face {
         me: config.me().number(),
         members: config.members(),
         session: config.session(),
-        guard: place.guard(alloc, root)?,
+        guard,
     };
     Ok((face, address))
 }

@@ -1,7 +1,7 @@
 //! What a board tells on standard error.
 
-use srm_live::{Dropped, Lost, Tally};
-use srm_udp::Losses;
+use srm_live::{ByCause, Lost, Tally};
+use srm_wire::{Dropped, Losses};
 use std::alloc::Global;
 use std::io::Write;
 
@@ -22,7 +22,7 @@ pub fn tell_wire<E: Write>(alloc: Global, tally: &Tally, err: &mut E) {
     }
     let dropped = tally.dropped();
     if dropped != Dropped::none() {
-        if let Ok(line) = format!(in alloc; "srm: dropped: {dropped}\n") {
+        if let Ok(line) = format!(in alloc; "srm: dropped: {}\n", ByCause(dropped)) {
             put(line.as_str(), err);
         }
     }

@@ -1,21 +1,25 @@
 //! Entries that are shown and not kept.
 
 ghost use Rattle.std.specs.Prelude.{◌≡◌, []};
+ghost use Rattle.srm_agent.specs.Asking.{MissesInAll};
 ghost use Rattle.srm_board.specs.Shows.{KeepsTaken};
 
+use crate::first_missing::first_missing;
 use crate::turning::Turning;
 use bytes::Bytes;
-use srm_agent::{Arm, Cause, Entry, Input, Verdict};
+use srm_agent::{Agent, Arm, Cause, Entry, Input, Verdict};
 use srm_codec::Datagram;
-use srm_live::{Dropped, LastDrawn, Tally};
+use srm_live::{Claims, Need, Tally};
 use srm_names::{Member, Name, Page};
-use srm_slate::{Counts, Happening, Record, Slate};
-use srm_timers::ArmKind;
+use srm_slate::{Counts, Happening, Hole, Record, Slate};
+use srm_timers::{ArmKind, Words};
+use srm_wire::{Dropped, WireCounts};
 use srm_world::{Forgotten, Past};
 use std::alloc::{AllocError, Global};
 use std::sync::{Arc, Wait};
 
-/// The history of a node that keeps no entry. What each entry says of the member goes to a slate first, and which pages have strokes to the turns of its pages.
+/// The history of a node that keeps no entry. What each entry says of the member goes to a slate first, which pages have strokes to the turns of its pages, and what tells of a need
+/// of others to who waits for it.
 #[derive(Drop)]
 pub struct Watching<R: Wait + Drop> {
     past: Forgotten<Entry>,
@@ -23,12 +27,13 @@ pub struct Watching<R: Wait + Drop> {
 }
 
 impl<R: Wait + Drop> Watching<R> {
-    /// Makes a history without entries, which is shown on this slate from now on, with what the wire dropped by this tally.
+    /// Makes a history without entries, which is shown on this slate from now on, with what others need on this need, and what the wire dropped on this tally.
     pub fn new(
         rt: R,
         alloc: Global,
         slate: Arc<Slate, Global>,
         turning: Arc<Turning, Global>,
+        need: Arc<Need, Global>,
         tally: Arc<Tally, Global>,
     ) -> Watching<R>
         ensures { result.past ≡ [] }
@@ -37,10 +42,15 @@ impl<R: Wait + Drop> Watching<R> {
             past: Forgotten::new(),
             watch: Some(Watch {
                 rt,
+                alloc,
                 slate,
                 turning,
+                need,
                 tally,
-                drawn: Some(LastDrawn::new(alloc)),
+                counts: WireCounts::of_failures(0),
+                claims: Claims::new(alloc),
+                is_stale: false,
+                is_news: false,
             }),
         }
     }
@@ -70,61 +80,100 @@ impl<R: Wait + Drop> Past<Entry> for Watching<R> {
         }
         self.past.append(one);
     }
+
+    fn turned<W: Words + Drop>(&mut self, agent: &Agent<W>, counts: &WireCounts) {
+        if let Some(watch) = &mut self.watch {
+            watch.need.show(&agent.outstanding());
+            watch.show_wire(counts);
+            watch.ask(agent);
+            watch.tell();
+        }
+    }
 }
 
 // Who shows the entries so far.
 #[derive(Drop)]
 struct Watch<R: Wait + Drop> {
     rt: R,
+    alloc: Global,
     slate: Arc<Slate, Global>,
     turning: Arc<Turning, Global>,
+    need: Arc<Need, Global>,
     tally: Arc<Tally, Global>,
-    // What the member drew, unless memory ran out for it.
-    drawn: Option<LastDrawn>,
+    // What the tally was told of the wire last.
+    counts: WireCounts,
+    // What was said of the member's own streams in this turn.
+    claims: Claims,
+    // Whether an entry of this turn may have changed what the member misses.
+    is_stale: bool,
+    // Whether something befell the member in this turn.
+    is_news: bool,
 }
 
 impl<R: Wait + Drop> Watch<R> {
+    // Shows what the wire lost and dropped, if that changed.
+    fn show_wire(&mut self, counts: &WireCounts) {
+        if *counts != self.counts {
+            self.counts = *counts;
+            self.tally.show_wire(counts);
+        }
+    }
+
     fn see(&mut self, entry: &Entry) {
+        self.need.see(entry);
         if is_idle(entry) {
             return;
         }
         self.show(entry);
-        self.note_drawn(entry);
+        self.note_claims(entry);
         self.turn(entry);
     }
 
-    // Shows an entry under one lock. Browsers are woken only where something befell the member: a worker wakes the browsers for what it takes, and counts may wait.
-    fn show(&self, entry: &Entry) {
-        let is_stale = self.tells_of_earlier(entry);
+    // Shows an entry under one lock.
+    fn show(&mut self, entry: &Entry) {
         let dropped = count_of(self.tally.dropped());
         let mut shown = self.slate.lock(&self.rt);
         let before = shown.happened();
-        show(&mut shown, entry, is_stale);
+        show(&mut shown, entry);
         let counts = counted(shown.counts(), entry);
         shown.show_counts(Counts { dropped, ..counts });
         let is_news = shown.happened() != before;
         drop(shown);
-        if is_news {
+        self.is_news = self.is_news || is_news;
+        self.is_stale = self.is_stale || entry.accepted().is_some();
+    }
+
+    // Shows what the member answers that it misses, if that may have changed, and whether others know of strokes that it drew in an earlier run.
+    fn ask<W: Words + Drop>(&mut self, agent: &Agent<W>) {
+        if self.is_stale {
+            self.is_stale = false;
+            let holes = first_missing(self.alloc, agent);
+            let mut shown = self.slate.lock(&self.rt);
+            show_missing(&mut shown, agent, holes);
+        }
+        self.look_for_earlier(agent);
+    }
+
+    // Tells the browsers, once what is missing is shown too, and only where something befell the member: a worker tells them of what it takes, and counts may wait.
+    fn tell(&mut self) {
+        if self.is_news {
+            self.is_news = false;
             self.slate.tell();
         }
     }
 
-    // Whether another member knows of strokes that this one drew in an earlier run.
-    fn tells_of_earlier(&self, entry: &Entry) -> bool {
-        match (&entry.input, entry.verdict, &self.drawn) {
-            (Input::Heard(datagram), Verdict::Ignored(_), Some(drawn)) => {
-                drawn.is_exceeded(entry.member, datagram)
-            }
-            _ => false,
+    // Notes what an ignored datagram says of the member's own streams. If out of memory, an earlier run is told of by a later one.
+    fn note_claims(&mut self, entry: &Entry) {
+        if let (Input::Heard(datagram), Verdict::Ignored(_)) = (&entry.input, entry.verdict) {
+            let _ = self.claims.note(entry.member, datagram);
         }
     }
 
-    // Notes what was drawn. Without memory for it nothing is said of an earlier run any more.
-    fn note_drawn(&mut self, entry: &Entry) {
-        if let (Some(drawop), Some(drawn)) = (&entry.effects.drawn, &mut self.drawn) {
-            if drawn.note(drawop.name).is_err() {
-                self.drawn = None;
-            }
+    // Shows it if another member knows of strokes that this one drew in an earlier run.
+    fn look_for_earlier<W: Words + Drop>(&mut self, agent: &Agent<W>) {
+        if self.claims.settle(agent) {
+            let mut shown = self.slate.lock(&self.rt);
+            show_stale(&mut shown);
         }
     }
 
@@ -159,23 +208,29 @@ fn is_idle(entry: &Entry) -> bool {
 
 // Shows what an entry says befell the member.
 #[tactic(auto, using(crate::proofs::Showing::keeps_on, crate::proofs::Showing::keeps_all))]
-fn show(shown: &mut Record, entry: &Entry, is_stale: bool)
+fn show(shown: &mut Record, entry: &Entry)
     ensures { KeepsTaken shown.old shown.new }
 {
-    show_stale(shown, is_stale);
     show_input(shown, entry);
     show_arms(shown, entry.effects.arms.as_slice());
     show_asks(shown, entry.effects.asks.as_slice());
     show_fixes(shown, entry.effects.fixes.as_slice());
 }
 
+// What the member misses is shown as it answers.
 #[tactic(auto, using(crate::proofs::Showing::keeps_on, crate::proofs::Showing::keeps_all))]
-fn show_stale(shown: &mut Record, is_stale: bool)
+fn show_missing<W: Words + Drop>(shown: &mut Record, agent: &Agent<W>, holes: Vec<Hole>)
+    ensures keeps { KeepsTaken shown.old shown.new }
+    ensures missing { MissesInAll agent.now shown.new.missing }
+{
+    shown.show_missing(agent.missing(), holes);
+}
+
+#[tactic(auto, using(crate::proofs::Showing::keeps_on, crate::proofs::Showing::keeps_all))]
+fn show_stale(shown: &mut Record)
     ensures { KeepsTaken shown.old shown.new }
 {
-    if is_stale {
-        shown.note_stale();
-    }
+    shown.note_stale();
 }
 
 #[tactic(auto, using(crate::proofs::Showing::keeps_on, crate::proofs::Showing::keeps_all))]
@@ -221,7 +276,7 @@ fn count_sender(shown: &mut Record, entry: &Entry, datagram: &Datagram)
     }
 }
 
-// What a datagram brings isn't missing any more.
+// What a datagram brings may have been missing.
 #[tactic(auto, using(crate::proofs::Showing::keeps_on, crate::proofs::Showing::keeps_all))]
 fn bring(shown: &mut Record, verdict: Verdict, datagram: &Datagram)
     ensures { KeepsTaken shown.old shown.new }
@@ -234,14 +289,14 @@ fn bring(shown: &mut Record, verdict: Verdict, datagram: &Datagram)
     }
 }
 
-// What an entry sets request timers for is missing.
+// A name was found missing where its first request timer is set: each later wait is doubled. That of a name which another's request tells of is, too, and so isn't told.
 #[tactic(auto, using(crate::proofs::Showing::keeps_on, crate::proofs::Showing::keeps_all))]
 fn show_arms(shown: &mut Record, arms: &[Arm])
     ensures { KeepsTaken shown.old shown.new }
 {
     for arm in arms {
-        if arm.kind == ArmKind::Ask {
-            miss(shown, arm.name);
+        if arm.kind == ArmKind::Ask && arm.exponent == 0 {
+            happen(shown, Happening::Missed(arm.name));
         }
     }
 }
@@ -265,12 +320,6 @@ fn show_fixes(shown: &mut Record, names: &[Name])
 }
 
 // Each of these leaves news out if memory ran out for them, and the board goes on.
-
-fn miss(shown: &mut Record, name: Name)
-    ensures { KeepsTaken shown.old shown.new }
-{
-    let _ = shown.miss(name);
-}
 
 fn gain(shown: &mut Record, name: Name, by: Member)
     ensures { KeepsTaken shown.old shown.new }
@@ -307,7 +356,9 @@ fn counted(before: Counts, entry: &Entry) -> Counts {
 fn count_of(dropped: Dropped) -> u64 {
     dropped
         .strangers
+        .saturating_add(dropped.misnamed)
         .saturating_add(dropped.untagged)
+        .saturating_add(dropped.again)
         .saturating_add(dropped.excess)
         .saturating_add(dropped.overflowed)
 }

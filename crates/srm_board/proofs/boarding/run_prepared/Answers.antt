@@ -1,9 +1,10 @@
+use Rattle.srm_member.proofs.MemberRuns.{stored_if}
 use Rattle.srm_live.proofs.LiveMembers.{told_none}
 use Rattle.srm_board.proofs.BoardRuns.{board_ends}
 use Rattle.srm_board.proofs.boarding.run_prepared.Goals as goal
 
 pub run_bound-fault-requires-clause-new : goal.run_bound-fault-requires-clause-new
-run_bound-fault-requires-clause-new g c κs within = board_ends c.args.options c.args.key c.in-Ok.station.node.view c.in-Ok.station.taps.items c.in-Ok.station.pens.items c.in-Ok.ensures
+run_bound-fault-requires-clause-new g c κs within = board_ends c.args.options c.args.seal c.in-Ok.station.node.view c.in-Ok.station.taps.items c.in-Ok.station.pens.items c.in-Ok.ensures.station
 
 pub returns-in-Ok : goal.returns-in-Ok
 returns-in-Ok g c = λ none.
@@ -12,7 +13,8 @@ returns-in-Ok g c = λ none.
       node = c.in-Ok.station.node.view;
       taps = c.in-Ok.station.taps.items;
       pens = c.in-Ok.station.pens.items;
-      station = c.in-Ok.ensures;
+      station = c.in-Ok.ensures.station;
       took = run.0;
       whole = run.1;
+      stored = stored_if g.F.Write.contents c.args.file run.2 c.args.options.seed c.in-Ok.station.node.view.journal.start c.in-Ok.station.node.begins run.1.last.journal.entries run.0 c.in-Ok.ensures.begins run.3;
     }
