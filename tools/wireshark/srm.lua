@@ -10,8 +10,10 @@
 local KINDS = { [1] = "data", [2] = "request", [3] = "repair", [4] = "session" }
 local MEMBERS, DRAWOPS, BODY, MOMENT = 32, 65536, 1024, 2 ^ 48
 
--- How many bytes the tag has that follows each datagram of members with a key.
+-- How many bytes follow each datagram of members with a key: its sender, a counter and a tag.
+local COUNTER = 8
 local TAG = 16
+local TRAILER = 1 + COUNTER + TAG
 
 -- Why bytes are no datagram, by the names that the codec has for it.
 local FAULTS = {
@@ -255,12 +257,12 @@ local function read(bytes, session)
   return datagram
 end
 
--- A datagram and the tag behind it. Bytes that are too few for a tag have none.
+-- A datagram and the trailer behind it. Bytes that are too few for a trailer have none.
 local function split(bytes)
-  if #bytes < TAG then
+  if #bytes < TRAILER then
     return bytes, ""
   end
-  return bytes:sub(1, #bytes - TAG), bytes:sub(#bytes - TAG + 1)
+  return bytes:sub(1, #bytes - TRAILER), bytes:sub(#bytes - TRAILER + 1)
 end
 
 -- Whether bytes begin as a datagram does.
@@ -398,6 +400,8 @@ local FIELDS = {
   ["echo.member"] = ProtoField.uint8("srm.echo.member", "Of member"),
   ["echo.t1"] = ProtoField.uint64("srm.echo.t1", "Its message was sent at"),
   ["echo.delay"] = ProtoField.uint64("srm.echo.delay", "It was heard before"),
+  ["trailer.sender"] = ProtoField.uint8("srm.trailer.sender", "Sealed by"),
+  counter = ProtoField.uint64("srm.counter", "Counter"),
   tag = ProtoField.bytes("srm.tag", "Tag"),
   fault = ProtoField.string("srm.fault", "Fault"),
 }
@@ -411,7 +415,7 @@ local no_datagram = ProtoExpert.new("srm.no_datagram", "No datagram", expert.gro
 local cut = ProtoExpert.new("srm.cut", "Cut by the capture", expert.group.UNDECODED, expert.severity.NOTE)
 srm.experts = { no_datagram, cut }
 srm.prefs.session = Pref.string("Session", "", "The number of the only session that is known; any where this is empty")
-srm.prefs.tagged = Pref.bool("Tagged", false, "Whether the members have a key, so that a tag of 16 bytes follows each datagram")
+srm.prefs.tagged = Pref.bool("Tagged", false, "Whether the members have a key, so that a trailer of 25 bytes follows each datagram")
 
 -- A range of so many bytes, which may be none.
 local function range(tvb, at, size)
@@ -446,11 +450,18 @@ local function show_fault(tree, tvb, fault)
   tree:add_proto_expert_info(no_datagram, FAULTS[fault.name])
 end
 
+-- What stands behind a datagram of so many bytes: who sealed it, the counter and the tag.
+local function show_trailer(tree, tvb, at)
+  tree:add(FIELDS["trailer.sender"], range(tvb, at, 1))
+  tree:add(FIELDS.counter, range(tvb, at + 1, COUNTER))
+  tree:add(FIELDS.tag, range(tvb, at + 1 + COUNTER, TAG))
+end
+
 function srm.dissector(tvb, pinfo, root)
-  local bytes, tag = tvb:len() > 0 and tvb:raw() or "", ""
-  -- Where the capture cut the datagram, its tag isn't there.
+  local bytes, trailer = tvb:len() > 0 and tvb:raw() or "", ""
+  -- Where the capture cut the datagram, its trailer isn't there.
   if srm.prefs.tagged and tvb:len() == tvb:reported_len() then
-    bytes, tag = split(bytes)
+    bytes, trailer = split(bytes)
   end
   local datagram = read(bytes, tonumber(srm.prefs.session))
   local is_cut = datagram.fault and datagram.fault.name == "Short" and tvb:len() < tvb:reported_len()
@@ -459,8 +470,8 @@ function srm.dissector(tvb, pinfo, root)
   pinfo.cols.info = text
   local tree = root:add(srm, tvb(), "Scalable Reliable Multicast, " .. text)
   show(tree, tvb, datagram.items)
-  if #tag > 0 then
-    tree:add(FIELDS.tag, range(tvb, #bytes, #tag))
+  if #trailer > 0 then
+    show_trailer(tree, tvb, #bytes)
   end
   if is_cut then
     tree:add_proto_expert_info(cut)

@@ -36,14 +36,14 @@ check("no bytes", srm.read("", SESSION).fault.name, "Short")
 check("likely", srm.is_likely(vectors.data) and srm.is_likely(vectors.packed), true)
 check("unlikely", srm.is_likely("SR\3\2") or srm.is_likely("SR") or srm.is_likely("RS\1"), false)
 
--- ---- tags
+-- ---- trailers
 
-local bytes, tag = srm.split(vectors.data .. ("t"):rep(16))
-check("before a tag", bytes, vectors.data)
-check("a tag", tag, ("t"):rep(16))
-check("a tag alone", srm.split(("t"):rep(16)), "")
-bytes, tag = srm.split(("t"):rep(15))
-check("too few for a tag", bytes .. "|" .. tag, ("t"):rep(15) .. "|")
+local bytes, trailer = srm.split(vectors.data .. ("t"):rep(25))
+check("before a trailer", bytes, vectors.data)
+check("a trailer", trailer, ("t"):rep(25))
+check("a trailer alone", srm.split(("t"):rep(25)), "")
+bytes, trailer = srm.split(("t"):rep(24))
+check("too few for a trailer", bytes .. "|" .. trailer, ("t"):rep(24) .. "|")
 
 -- ---- text
 
