@@ -127,8 +127,7 @@ def test_keys_and_reader(srm, shot):
         chord(a, 'z')
         same(all_, 3)
         heard('taken back')
-        label = a.find_element(By.ID, 'paper').get_attribute('aria-label')
-        assert '3 shapes' in label, label
+        until(lambda: '3 shapes' in a.find_element(By.ID, 'paper').get_attribute('aria-label'), 'the paper is labelled with its shapes')
         # Each control is reached by Tab, and has a name; what changes is in live regions.
         assert a.execute_script("return ['said', 'toast', 'veil'].every(id => $(id).matches('[aria-live], [role=status], [role=alert]'))")
         reached = set()
