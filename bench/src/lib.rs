@@ -5,6 +5,7 @@ pub mod datagram;
 pub mod losses;
 pub mod meter;
 pub mod moments;
+pub mod outages;
 pub mod plain;
 pub mod sessions;
 pub mod teller;

@@ -1,4 +1,4 @@
-//! The figures of the paper of 1997, by groups of proved agents: points as CSV, and plots as SVG.
+//! The figures of the paper of 1997, and one of how long losses last, by groups of proved agents: points as CSV, and plots as SVG.
 //!
 //! `srm-figures TOP` writes them into the repository whose top is the folder TOP; `srm-figures TOP --stored` writes nothing, and compares them
 //! with what stands there. `--seed N` is for other random numbers than those of the stored figures.
@@ -10,16 +10,18 @@ mod files;
 mod parallel;
 mod plot;
 mod point;
+mod recovered;
 mod session;
 mod shapes;
 mod table;
 #[cfg(test)]
 mod tests;
 mod thousandths;
+mod timing;
 mod tree;
 
 use figure::Figure;
-use figures::{chain, distance, sparse, star, trees, waits};
+use figures::{chain, distance, recovery, sparse, star, trees, waits};
 use files::{Report, Way};
 use std::path::Path;
 use std::process::ExitCode;
@@ -41,7 +43,7 @@ fn main() -> ExitCode {
         return ExitCode::from(2);
     };
     let mut report = Report::new(Path::new(top), way);
-    for make in [chain::figure, star::figure, trees::figure, sparse::figure, distance::figure] {
+    for make in [chain::figure, star::figure, trees::figure, sparse::figure, distance::figure, recovery::figure] {
         report.add(&make(seed));
     }
     report.add(&waits_of(Path::new(top)));

@@ -23,6 +23,25 @@ impl<'a> Session<'a> {
         Session { tree, ways: ways.collect(), nodes }
     }
 
+    pub fn members(&self) -> usize {
+        self.nodes.len()
+    }
+
+    /// Microseconds from each member to each, by sender and then receiver.
+    pub fn ways(&self) -> &[u32] {
+        &self.ways
+    }
+
+    /// Microseconds from a member to another.
+    pub fn way(&self, from: usize, to: usize) -> u64 {
+        u64::from(self.ways[from * self.members() + to])
+    }
+
+    /// Microseconds between the two members that are farthest from each other.
+    pub fn farthest(&self) -> u64 {
+        u64::from(self.ways.iter().copied().max().unwrap_or(0))
+    }
+
     /// The links from the source to a member.
     pub fn path_to(&self, member: usize) -> Vec<usize> {
         self.tree.path(self.nodes[0], self.nodes[member])

@@ -27,6 +27,14 @@ impl Tree {
         tree
     }
 
+    /// The tree in which each link takes so many times as long.
+    pub fn slower(mut self, times: u32) -> Tree {
+        for delay in &mut self.delays {
+            *delay *= times;
+        }
+        self
+    }
+
     pub fn nodes(&self) -> usize {
         self.above.len()
     }

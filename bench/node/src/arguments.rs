@@ -1,16 +1,19 @@
 //! What the command line says.
 
+use crate::ticks::Counting;
+use std::env;
 use std::ffi::OsString;
 use std::path::PathBuf;
 
 /// How the program is called.
 pub const USAGE: &str = "\
-usage: srm-bench-node PROGRAM [PEERS] [--sessions N] [--runs N] [--seconds N] [--paces N,N..]
+usage: srm-bench-node PROGRAM [PEERS] [--ticks SHIM] [--sessions N] [--runs N] [--seconds N] [--paces N,N..]
 
 PROGRAM is the binary of srm, PEERS the folder of NORM's peers.
+  --ticks SHIM    what is preloaded into members so that they count their ticks; if left out, these aren't told
   --sessions N    sessions of each size, and of strokes that are typed at once; 5 if left out
   --runs N        runs at each pace, in which losses are counted; 10 if left out
-  --seconds N     seconds of such a run, and seconds in which an idle member is watched; 10 if left out
+  --seconds N     seconds of such a run, also of those whose ticks are told, and seconds in which idle members are watched; 10 if left out
   --paces N,N..   strokes a second that each of three members draws in such a run; 3000,6000 if left out";
 
 /// So many strokes a stream holds, and a live member draws all of its strokes in one.
@@ -20,6 +23,8 @@ const STREAM: usize = 65_536;
 pub struct Arguments {
     pub program: PathBuf,
     pub peers: Option<PathBuf>,
+    /// How members count their ticks, if they can.
+    pub counting: Option<Counting>,
     /// Sessions of each size, and of strokes that are typed at once.
     pub sessions: usize,
     /// Runs at each pace, and their seconds.
@@ -35,6 +40,7 @@ pub fn read(words: impl IntoIterator<Item = OsString>) -> Result<Arguments, Stri
     let mut arguments = Arguments {
         program: PathBuf::new(),
         peers: None,
+        counting: None,
         sessions: 5,
         runs: 10,
         seconds: 10,
@@ -60,7 +66,14 @@ pub fn read(words: impl IntoIterator<Item = OsString>) -> Result<Arguments, Stri
 impl Arguments {
     // Sets what an option names.
     fn set(&mut self, name: &str, value: Option<OsString>) -> Result<(), String> {
-        let value = value.ok_or(format!("{name} lacks its number"))?;
+        let value = value.ok_or(format!("{name} lacks its value"))?;
+        if name == "--ticks" {
+            self.counting = Some(Counting {
+                shim: PathBuf::from(value),
+                folder: env::temp_dir(),
+            });
+            return Ok(());
+        }
         let value = value.to_string_lossy();
         match name {
             "--sessions" => self.sessions = number(name, &value)?,

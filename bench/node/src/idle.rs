@@ -8,7 +8,7 @@ use std::thread;
 use std::time::{Duration, Instant};
 
 /// How long members take to meet, at most: each speaks a second after it began.
-const MEETING: Duration = Duration::from_secs(3);
+pub const MEETING: Duration = Duration::from_secs(3);
 
 /// How often all threads of a live member together wake in a second, while three members have nothing to do for so many seconds: of the member that wakes most.
 pub fn wakes(program: &Path, seconds: usize) -> Result<f64, String> {

@@ -2,6 +2,7 @@
 
 use crate::addresses;
 use crate::live_member::LiveMember;
+use crate::ticks::Counting;
 use std::path::Path;
 use std::thread;
 use std::time::{Duration, Instant};
@@ -19,9 +20,26 @@ const LIMIT: Duration = Duration::from_secs(60);
 
 /// Starts three members with these options, and lets them come to rest.
 pub fn start(program: &Path, options: &[&str]) -> Result<Vec<LiveMember>, String> {
+    start_all(program, options, None)
+}
+
+/// The same with members that count their ticks.
+pub fn start_counting(
+    program: &Path,
+    options: &[&str],
+    counting: &Counting,
+) -> Result<Vec<LiveMember>, String> {
+    start_all(program, options, Some(counting))
+}
+
+fn start_all(
+    program: &Path,
+    options: &[&str],
+    counting: Option<&Counting>,
+) -> Result<Vec<LiveMember>, String> {
     let addresses = addresses::free(MEMBERS);
     let mut members = (0..MEMBERS)
-        .map(|number| LiveMember::start(program, number, &addresses, options))
+        .map(|number| LiveMember::start(program, number, &addresses, options, counting))
         .collect::<Result<Vec<_>, _>>()?;
     for member in &mut members {
         member.await_socket()?;

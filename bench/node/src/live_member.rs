@@ -2,6 +2,7 @@
 
 use crate::reading::{lines_of, moments_of_strokes};
 use crate::sockets;
+use crate::ticks::Counting;
 use crate::who::Who;
 use std::io::Write;
 use std::net::SocketAddr;
@@ -35,14 +36,21 @@ pub struct Taken {
 }
 
 impl LiveMember {
-    /// Starts the member with this number and these options.
+    /// Starts the member with this number and these options. It counts its ticks if that is asked for.
     pub fn start(
         program: &Path,
         number: usize,
         addresses: &[SocketAddr],
         options: &[&str],
+        counting: Option<&Counting>,
     ) -> Result<LiveMember, String> {
-        let mut child = Command::new(program)
+        let mut command = Command::new(program);
+        if let Some(counting) = counting {
+            command
+                .env("LD_PRELOAD", &counting.shim)
+                .env("TICKS", counting.file(number));
+        }
+        let mut child = command
             .args(["node", "--live", "--session", "7"])
             .args(["--me", &number.to_string()])
             .args(options)

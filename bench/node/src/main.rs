@@ -24,6 +24,8 @@ mod speed_table;
 mod spread;
 mod strokes;
 mod switches;
+mod tick_table;
+mod ticks;
 mod usage;
 mod who;
 
@@ -52,5 +54,6 @@ fn print(arguments: &Arguments) -> Result<(), String> {
     println!("{}\n", buffer::line()?);
     cost_table::print(arguments)?;
     speed_table::print(arguments)?;
+    tick_table::print(arguments)?;
     loss_table::print(arguments)
 }

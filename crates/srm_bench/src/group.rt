@@ -1,5 +1,7 @@
 //! A group whose datagrams take their time, and what becomes of the drawops that it loses.
 
+use crate::earlier::earlier;
+use crate::flight::Flight;
 use crate::step::Step;
 use crate::teller::Teller;
 use bytes::Bytes;
@@ -46,14 +48,6 @@ pub struct Places<'a> {
     pub cut_off: &'a [bool],
 }
 
-/// A copy of a datagram on its way.
-#[derive(Drop)]
-struct Copied {
-    at: u64,
-    to: usize,
-    bytes: Vec<u8>,
-}
-
 /// Members that send each other datagrams. Each call is `None` where memory ran out, or a list is too short.
 #[derive(Drop)]
 pub struct Group<'a> {
@@ -62,7 +56,7 @@ pub struct Group<'a> {
     // When each of them is next due.
     dues: Vec<u64>,
     places: Places<'a>,
-    copies: Vec<Copied>,
+    flight: Flight,
     now: u64,
     teller: Teller<'a>,
 }
@@ -90,7 +84,7 @@ impl<'a> Group<'a> {
             agents,
             dues,
             places,
-            copies: Vec::new(alloc),
+            flight: Flight::new(alloc),
             now: 0,
             teller,
         })
@@ -121,7 +115,7 @@ impl<'a> Group<'a> {
         let end = self.now.saturating_add(u64::from(micros));
         for _ in 0..EVENTS {
             let (at, place) = self.earliest_due()?;
-            match self.earliest_copy() {
+            match self.flight.earliest() {
                 Some((come, index)) if come <= at && come <= end => self.come(index)?,
                 _ if at <= end => self.tick(place, at)?,
                 _ => {
@@ -142,20 +136,8 @@ impl<'a> Group<'a> {
         earliest
     }
 
-    /// When a copy first comes, and which.
-    fn earliest_copy(&self) -> Option<(u64, usize)> {
-        let mut earliest: Option<(u64, usize)> = None;
-        for (index, copy) in self.copies.iter().enumerate() {
-            earliest = earlier(earliest, copy.at, index);
-        }
-        earliest
-    }
-
     fn come(&mut self, index: usize) -> Option<()> {
-        if index >= self.copies.len() {
-            return None;
-        }
-        let copy = self.copies.swap_remove(index);
+        let copy = self.flight.take(index)?;
         self.now = copy.at;
         let now = self.now.min(LATEST_MOMENT);
         let agent = self.agents.get_mut(copy.to)?;
@@ -191,8 +173,7 @@ impl<'a> Group<'a> {
             let is_cut_off = *self.places.cut_off.get(to)?;
             if to != from && !(lost && is_cut_off) {
                 let at = self.now.saturating_add(u64::from(way));
-                let bytes = bytes.to_vec(self.alloc).ok()?;
-                self.copies.push(Copied { at, to, bytes }).ok()?;
+                self.flight.send(at, to, bytes)?;
             }
         }
         Some(())
@@ -257,13 +238,6 @@ fn is_lost(datagram: &Datagram) -> bool {
 
 fn due_of(agent: &Agent<Pcg>) -> u64 {
     agent.next_due().unwrap_or(u64::MAX)
-}
-
-fn earlier(earliest: Option<(u64, usize)>, at: u64, place: usize) -> Option<(u64, usize)> {
-    match earliest {
-        Some((before, _)) if before <= at => earliest,
-        _ => Some((at, place)),
-    }
 }
 
 /// A member of so many in session 7, at the greatest rate and depth.

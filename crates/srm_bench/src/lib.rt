@@ -1,5 +1,5 @@
 //! What the benchmarks and the driver for hostile datagrams call from Rust: one member's agent over many calls, the moments of
-//! many names, which are cleared and set, the journals of a session, which are put together, and a group that repairs what it loses.
+//! many names, which are cleared and set, the journals of a session, which are put together, and groups that repair what they lose.
 //!
 //! What the agent answered is told in numbers, so that two agents can be compared.
 #![tactic(auto)]
@@ -7,9 +7,14 @@
 mod caller;
 mod clock;
 mod digest;
+mod earlier;
+mod emptied;
+mod flight;
 mod group;
 mod lists;
+mod lossy_group;
 mod moments;
+mod outage;
 mod session;
 mod sessions;
 mod step;
@@ -17,7 +22,9 @@ mod teller;
 
 use crate::caller::Caller;
 use crate::group::{Group, Places, Plan, Waits};
+use crate::lossy_group::LossyGroup;
 use crate::moments::Moments;
+use crate::outage::Outage;
 use crate::sessions::{mingled, talked};
 use crate::teller::Teller;
 use srm_audit::Mismatch;
@@ -106,5 +113,28 @@ pub extern "C" fn srm_losses(
     let places = Places { ways, cut_off };
     Group::new(alloc, waits, seeds, places, Teller::new(told))
         .and_then(|group| group.lose(plan))
+        .unwrap_or(usize::MAX)
+}
+
+/// A group loses drawops of member 0 for a while, and then the network delivers all, as an [`Outage`](crate::outage::Outage) says. It has a member for each seed of random
+/// numbers, 1 to 32; the ways between them are microseconds, by sender and then receiver. A datagram that is lost comes to all members on its sender's side of the link, and to
+/// none `behind` it, or the other way round. Told are six numbers for each step: the moment, the member, the [`Step`](crate::step::Step), the drawop's number, else 0, the
+/// distance that a timer's wait was chosen from, else 0, and the wait, or how long a bucket went without being empty, else 0. Returns how many numbers were told, as far as
+/// there was room; the greatest number where memory ran out, a setting is out of range, or a list is too short.
+#[unsafe(no_mangle)]
+pub extern "C" fn srm_outages(
+    alloc: Global,
+    outage: &Outage,
+    seeds: &[u64],
+    ways: &[u32],
+    behind: &[bool],
+    told: &mut [u64],
+) -> usize {
+    let places = Places {
+        ways,
+        cut_off: behind,
+    };
+    LossyGroup::new(alloc, *outage, seeds, places, Teller::new(told))
+        .and_then(|group| group.recover())
         .unwrap_or(usize::MAX)
 }

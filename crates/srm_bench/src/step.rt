@@ -12,4 +12,8 @@ pub enum Step {
     Repaired = 3,
     /// Its page worker was given the drawop.
     Gave = 4,
+    /// It didn't hold the drawop as the network delivered again.
+    Lacked = 5,
+    /// From then on its bucket was empty after a tick each so long.
+    Emptied = 6,
 }
