@@ -48,6 +48,11 @@ def free_ports(count):
     return list(itertools.islice(filter(is_free, PORTS), count))
 
 
+def stroke(member, number):
+    """What a member draws."""
+    return f"stroke {member} {number}"
+
+
 class Member:
     """A live member, what it took so far, and when."""
 
@@ -73,7 +78,7 @@ class Member:
 
     def draw(self, count):
         self.drawn += count
-        text = "".join(f"stroke {self.number} {it}\n" for it in range(count))
+        text = "".join(f"{stroke(self.number, it)}\n" for it in range(count))
         self.process.stdin.write(text.encode())
         self.process.stdin.flush()
 
