@@ -13,6 +13,9 @@ use std::collections::BTreeSet;
 /// Drawops that the source draws while the network loses.
 pub const DRAWN: u32 = 4;
 
+/// Of so many datagrams that cross the link that fails a setting says how many are lost.
+pub const ALL: u32 = 256;
+
 /// Bytes of a drawop with its body of 64, as data or as a repair, and of the longest request.
 const DRAWOP: u64 = 91;
 const REQUEST: u64 = 21;
@@ -27,7 +30,7 @@ pub struct Setting {
     /// Microseconds, as is the time from a tick to the next.
     pub least_distance: u32,
     pub tick: u32,
-    /// Of 256 datagrams that cross the link that fails.
+    /// Of [`ALL`] datagrams that cross the link that fails.
     pub lost: u32,
 }
 
@@ -57,7 +60,9 @@ impl Bound {
             hold_off: longest_hold_off(distance.max(FIRST_DISTANCE)),
         };
         let interval = longest_interval(rate, session.members(), session_length(session.members(), 1));
-        let known = losing + timing.knowing_time(interval);
+        // Where all is lost, nobody learns of a drawop until the network delivers.
+        let missing = if setting.lost < ALL { losing } else { 0 };
+        let known = missing + timing.knowing_time(interval);
         let longest = |member: usize| {
             let distance = session.way(member, 0).max(least);
             longest_request_wait(waits, exponent_within(known, waits, distance), distance)
@@ -84,6 +89,8 @@ pub struct Recovered {
     /// Microseconds from then until each member was given each drawop. None if that didn't come.
     pub whole: Option<u64>,
     pub bound: Bound,
+    /// The longest wait of a request timer that was set until all knew of all drawops.
+    pub waited: u64,
     /// Whether timers, hold-offs and buckets kept to the terms of the bound.
     pub is_met: bool,
 }
@@ -105,17 +112,32 @@ impl Recovered {
         let moments: Vec<u64> = given.map(|step| step.moment).collect();
         let is_whole = moments.len() == (members - 1) * DRAWN as usize;
         let last = moments.into_iter().max().unwrap_or(0);
+        let waited = steps.iter().filter(|step| step.moment <= delivers + bound.known()).filter_map(request_wait);
         Recovered {
             losses: lacked.collect::<BTreeSet<u64>>().len(),
             whole: is_whole.then_some(last.saturating_sub(delivers)),
             bound,
+            waited: waited.max().unwrap_or(0),
             is_met: steps.iter().all(|step| keeps_to(&bound, step, delivers)),
         }
     }
 
-    /// Whether each loss was repaired within the bound.
-    pub fn is_in_time(&self) -> bool {
-        self.whole.is_some_and(|whole| whole <= self.bound.whole())
+    /// The bound with the longest wait that a timer had, in place of the longest that settings allow.
+    pub fn closer_bound(&self) -> u64 {
+        self.bound.timing.sharing_time(self.bound.interval, self.waited)
+    }
+
+    /// Whether all was whole within so many microseconds.
+    pub fn is_whole_within(&self, bound: u64) -> bool {
+        self.whole.is_some_and(|whole| whole <= bound)
+    }
+}
+
+/// The wait of a request timer that was set.
+fn request_wait(step: &Step) -> Option<u64> {
+    match step.deed {
+        Deed::SetRequestTimer { wait, .. } => Some(wait),
+        _ => None,
     }
 }
 

@@ -54,9 +54,11 @@ impl<'a> LossyGroup<'a> {
         let mut emptied = Vec::new(alloc);
         for me in 0..members {
             let seed = *seeds.get(usize::from(me))?;
-            agents.push(outage.agent(alloc, me, members, seed)?).ok()?;
-            ticks.push(outage.first_tick(me, members)?).ok()?;
+            let agent = outage.agent(alloc, me, members, seed)?;
+            let first = outage.first_tick(me, members)?;
             let delivers = u64::from(outage.delivers);
+            agents.push(agent).ok()?;
+            ticks.push(first).ok()?;
             emptied.push(Emptied::from(delivers)).ok()?;
         }
         Some(LossyGroup {
@@ -76,14 +78,17 @@ impl<'a> LossyGroup<'a> {
     /// Member 0 draws while the network loses. Tells what each member lacks as the network delivers again, and what members do all the while. Returns how many numbers were
     /// told.
     pub fn recover(mut self) -> Option<usize> {
-        for index in 0..self.outage.drawn {
-            self.play(self.outage.draws_at(index)?)?;
+        let outage = self.outage;
+        for index in 0..outage.drawn {
+            let at = outage.draws_at(index)?;
+            self.play(at)?;
             self.draw()?;
         }
-        self.play(u64::from(self.outage.delivers))?;
-        self.tell_lacks()?;
-        self.play(u64::from(self.outage.ends))?;
-        self.tell_emptied();
+        let (delivers, ends) = (u64::from(outage.delivers), u64::from(outage.ends));
+        self.play(delivers)?;
+        self.tell_lacks(outage.drawn)?;
+        self.play(ends)?;
+        self.tell_emptied()?;
         Some(self.teller.count())
     }
 
@@ -146,20 +151,22 @@ impl<'a> LossyGroup<'a> {
 
     /// Notes whether the tick left the bucket of a member empty.
     fn note_emptied(&mut self, place: usize) -> Option<()> {
+        let now = self.now;
         let agent = self.agents.get(place)?;
         let waits = agent.waiting(Class::Shown) > 0
             || agent.waiting(Class::New) > 0
             || agent.waiting(Class::Other) > 0;
-        if !waits && self.now >= u64::from(self.outage.delivers) {
-            self.emptied.get_mut(place)?.note(self.now);
+        if !waits && now >= u64::from(self.outage.delivers) {
+            self.emptied.get_mut(place)?.note(now);
         }
         Some(())
     }
 
     /// A datagram of a member comes to all others, or is lost on the link.
     fn spread(&mut self, from: usize, bytes: &[u8]) -> Option<()> {
+        let (now, outage) = (self.now, self.outage);
         let word = self.words.word() % 256;
-        let lost = self.outage.loses_at(self.now) && word < u64::from(self.outage.lost);
+        let lost = outage.loses_at(now) && word < u64::from(outage.lost);
         let members = self.agents.len();
         let first = from.checked_mul(members)?;
         let side = *self.places.cut_off.get(from)?;
@@ -167,7 +174,7 @@ impl<'a> LossyGroup<'a> {
             let way = *self.places.ways.get(first.checked_add(to)?)?;
             let crosses = *self.places.cut_off.get(to)? != side;
             if to != from && !(lost && crosses) {
-                let at = self.now.saturating_add(u64::from(way));
+                let at = now.saturating_add(u64::from(way));
                 self.flight.send(at, to, bytes)?;
             }
         }
@@ -212,11 +219,11 @@ impl<'a> LossyGroup<'a> {
         }
     }
 
-    /// Tells which drawops each member doesn't hold.
-    fn tell_lacks(&mut self) -> Option<()> {
+    /// Tells which of so many drawops each member doesn't hold.
+    fn tell_lacks(&mut self, drawn: u32) -> Option<()> {
         let source = Member::new(0)?;
         for place in 0..self.agents.len() {
-            for before in 0..self.outage.drawn {
+            for before in 0..drawn {
                 let number = before.saturating_add(1);
                 let name = Name::new(source, Page::first(), number)?;
                 if !self.agents.get(place)?.holds(name) {
@@ -228,14 +235,15 @@ impl<'a> LossyGroup<'a> {
     }
 
     /// Tells how long the bucket of each member went without being empty.
-    fn tell_emptied(&mut self) {
+    fn tell_emptied(&mut self) -> Option<()> {
+        let now = self.now;
         for place in 0..self.emptied.len() {
-            if let Some(emptied) = self.emptied.get_mut(place) {
-                emptied.note(self.now);
-                let longest = emptied.longest();
-                self.tell(Step::Emptied, place, 0, 0, longest);
-            }
+            let emptied = self.emptied.get_mut(place)?;
+            emptied.note(now);
+            let longest = emptied.longest();
+            self.tell(Step::Emptied, place, 0, 0, longest);
         }
+        Some(())
     }
 
     /// Tells what a member did with the drawop of a number: when, who, what, the number, the distance that a timer's wait was chosen from, and how long it was.
