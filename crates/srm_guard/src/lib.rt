@@ -12,7 +12,8 @@
 //! **Limits of a key.** It hides nothing, doesn't stop anyone from holding a datagram back and delivering it later, and doesn't tell one member from another: a member
 //! that has the key may lie, and by one high counter put behind the window what another one sends. It is for one session: counters don't name theirs.
 //!
-//! [`Guard::dropped`] returns what was dropped, by cause ([`Dropped`]).
+//! [`Guard::dropped`] returns what was dropped, by cause ([`Dropped`]). Who has no [`Wire`](srm_wire::Wire) calls [`Seal::close`] for each datagram to a member, and [`Seal::open`] for what
+//! comes ([`Opened`]).
 //!
 //! **Errors.** [`Key::read`] returns a [`KeyFault`]. [`Guard::new`] and [`Seal::new`] fail only if out of memory.
 #![tactic(auto)]
@@ -29,4 +30,4 @@ pub use guard::Guard;
 pub use hmac::hmac_sha256;
 pub use key::{Key, KeyFault, TAG_BYTES};
 pub use laws::{each_receive_opens, nothing_is_passed_on_twice};
-pub use seal::{Seal, TRAILER_BYTES};
+pub use seal::{Opened, Seal, TRAILER_BYTES};

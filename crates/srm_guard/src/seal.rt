@@ -30,8 +30,9 @@ pub struct Seal {
     windows: Windows,
 }
 
-/// What bytes opened to.
-pub(crate) enum Opened {
+/// What bytes that came open to.
+#[derive(Clone, Copy, Debug, PartialEq, Eq)]
+pub enum Opened {
     /// Nobody with the key sealed them for this member.
     Foreign,
     /// Nobody did, and they have the tag of an older version by this key.
@@ -77,11 +78,12 @@ impl Seal {
         })
     }
 
-    /// Puts a datagram with its number and tag to the front of a room, and counts it. Returns false, and changes no counter, after 2^64 - 1 datagrams.
-    pub(crate) fn close(&mut self, to: Member, datagram: &[u8], room: &mut [u8]) -> bool
+    /// Puts a datagram to a member with its number and tag to the front of a room, and counts it: [`TRAILER_BYTES`] more bytes than it has. Returns false, and changes no counter,
+    /// if all counters up to 2^64 - 2 were used. Takes no memory.
+    pub fn close(&mut self, to: Member, datagram: &[u8], room: &mut [u8]) -> bool
         requires { length datagram.now + 25 ≤ length room.old }
         ensures { MatchBool result ((take (length datagram.now + 25) room.new ≡ sealed self.old.key to (numbered self.old.me (next_to to self.old)) datagram.now) × (next_to to self.old ≢ u64.MAX) × (self.new ≡ one_sent to self.old))
-            ((self.new ≡ self.old) × (next_to to self.old ≡ u64.MAX)) }
+            ((self.new ≡ self.old) × (next_to to self.old ≡ u64.MAX) × (room.new ≡ room.old)) }
     {
         let Some(counter) = self.count(to) else {
             return false;
@@ -106,8 +108,9 @@ impl Seal {
         Some(counter)
     }
 
-    /// Opens bytes that came, and notes their number.
-    pub(crate) fn open(&mut self, bytes: &[u8]) -> Opened
+    /// Opens bytes that came, whatever they are, and notes their number if somebody with the key sealed them for this member. Of these only what opens to [`Opened::Datagram`] is to be
+    /// passed on. Takes no memory.
+    pub fn open(&mut self, bytes: &[u8]) -> Opened
         ensures { Opens result bytes.now self.old self.new }
     {
         let Some(end) = self.key.open(self.me.number(), bytes) else {

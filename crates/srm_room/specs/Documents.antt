@@ -1,7 +1,7 @@
 -- How a room stands in its file.
-use Rattle.std.specs.Prelude.{ℕ, ℤ, pos, List, [], ◌∷◌, map, codes}
+use Rattle.std.specs.Prelude.{ℕ, pos, List, [], ◌∷◌, map, codes}
 use Rattle.hex.specs.Hex.{encode_lower}
-use Rattle.toml.specs.Data.{Data, string, integer, array, table, Items, Members, no_members, member}
+use Rattle.toml.specs.Data.{Data, string, integer, array, table, Members, no_members, member}
 use Rattle.toml.specs.View.{items_of}
 use Rattle.srm_room.specs.declared.field.Field.{Field}
 use Rattle.srm_room.specs.declared.field.Field.TheVariants as field

@@ -1,13 +1,12 @@
 -- Names, addresses and rooms in examples.
-use Rattle.std.specs.Prelude.{◌≡◌, pos, true, false, refl, codes, List, [], ◌∷◌, ◌++◌, replicate, Ok, Err, Some, None}
-use Rattle.toml.specs.Data.{string, integer, no_members}
+use Rattle.std.specs.Prelude.{◌≡◌, pos, true, false, refl, codes, [], ◌∷◌, map, replicate, Ok, Err, Some, None}
+use Rattle.toml.specs.Data.{string, integer}
 use Rattle.srm_room.specs.declared.fault.Fault.TheVariants as fault
 use Rattle.srm_room.specs.declared.field.Field.TheVariants as field
 use Rattle.srm_room.specs.declared.field.Place.TheVariants as place
-use Rattle.srm_room.specs.declared.room_settings.RoomSettings.{RoomSettings}
-use Rattle.srm_room.specs.Documents.{document, settings_members}
-use Rattle.srm_room.specs.Readings.{counted, judged, key_of_digits, number_of, room_of}
-use Rattle.srm_room.specs.Rooms.{Content, Person, is_address, person_of}
+use Rattle.srm_room.specs.Readings.{counted, key_of_digits, number_of, room_of}
+use Rattle.srm_room.specs.Places.{member_of}
+use Rattle.srm_room.specs.Rooms.{Person, is_address, person_of}
 
 -- ---- addresses
 
@@ -82,3 +81,9 @@ no_wait_in_quotes = refl
 
 no_toml : room_of None ≡ Err fault.NotToml
 no_toml = refl
+
+-- ---- who is meant: a name, or a place from 0
+
+who_is_meant : map (member_of (ada ∷ grace ∷ [])) (codes "grace" ∷ codes "ada" ∷ codes "1" ∷ codes "0" ∷ codes "2" ∷ codes "bob" ∷ codes "" ∷ codes "4294967296" ∷ [])
+    ≡ Some 1 ∷ Some 0 ∷ Some 1 ∷ Some 0 ∷ None ∷ None ∷ None ∷ None ∷ []
+who_is_meant = refl

@@ -1,10 +1,10 @@
 -- What a room is, and which names and addresses it takes.
-use Rattle.std.specs.Prelude.{◌≡◌, ◌≢◌, ℕ, ◌+◌, ◌*◌, ◌-◌, ◌^◌, ◌<◌, ◌≤◌, min, Bool, true, false, not, ◌&&◌, ◌||◌, ◌==◌, nat_le, nat_lt, if◌then◌else◌, List, [], ◌∷◌, length, map, string_bytes, Vec}
+use Rattle.std.specs.Prelude.{◌≡◌, ◌≢◌, ℕ, ◌+◌, ◌*◌, ◌-◌, ◌^◌, ◌<◌, ◌≤◌, min, Bool, true, false, not, ◌&&◌, ◌||◌, ◌==◌, nat_le, nat_lt, if◌then◌else◌, List, [], ◌∷◌, length, map, string_bytes}
 use Rattle.std.specs.Char.{is_whitespace, is_control, is_ascii_digit, is_ascii_alphanumeric}
 use Rattle.std.specs.List.{AllByRecursion, list_all}
 use Rattle.std.specs.Str.{chars, bytes_eq}
 use Rattle.hex.specs.Hex.{IsBytes, is_hex_digit}
-use Rattle.srm_names.specs.declared.limits.TheConstants.{MEMBERS, LONGEST_DISTANCE}
+use Rattle.srm_names.specs.declared.limits.TheConstants.{MEMBERS}
 use Rattle.srm_room.specs.declared.room_member.RoomMember.{RoomMember}
 use Rattle.srm_room.specs.declared.room_parts.RoomParts.{RoomParts}
 use Rattle.srm_room.specs.declared.room_settings.RoomSettings.{RoomSettings}

@@ -19,6 +19,7 @@ mod lines;
 mod looking;
 mod naming;
 mod people;
+mod placing;
 mod reading;
 mod reading_settings;
 mod room;

@@ -26,7 +26,7 @@ use Rattle.std.specs.declared.option.Option.TheVariants.{None, Some}
 use Rattle.std.specs.contracts.alloc.Global.{the_row as Z}
 use Rattle.std.proofs.alloc.Global.TheLaws.{the_row_laws as LZ}
 use Rattle.std.specs.contracts.impls.GlobalAllocator.TheImpl.{ghosts}
-use Rattle.srm_seat.specs.Held.{held}
+use Rattle.srm_handle.specs.Held.{held}
 use Rattle.srm_seat.specs.contracts.seat.Seat.{the_row as R}
 use Rattle.srm_seat.specs.contracts.handle.Handle as handle
 

@@ -1,4 +1,3 @@
-pub mod Held
 pub mod Seats
 pub mod Asking
 pub mod Calls

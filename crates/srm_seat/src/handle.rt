@@ -6,9 +6,9 @@ ghost use Rattle.std.specs.declared.option.Option.{Option as AnOption};
 ghost use Rattle.std.specs.declared.option.Option.TheVariants.{None, Some};
 ghost use Rattle.srm_seat.specs.contracts.seat.Seat.{the_row as seat_row};
 ghost use Rattle.srm_seat.specs.Seats.{SeatContent};
-ghost use Rattle.srm_seat.specs.Held.{held};
+ghost use Rattle.srm_handle.specs.Held.{held};
 
-use crate::loose::Loose;
+use srm_handle::Loose;
 use crate::seat::Seat;
 use std::alloc::Global;
 use std::marker::Model;

@@ -19,7 +19,6 @@
 #![tactic(auto)]
 
 mod handle;
-mod loose;
 mod rooms;
 mod seat;
 

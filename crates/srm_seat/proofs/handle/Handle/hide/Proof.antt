@@ -23,7 +23,7 @@ use Rattle.std.specs.contracts.alloc.Global.{the_row as Z}
 use Rattle.std.proofs.alloc.Global.TheLaws.{the_row_laws as LZ}
 use Rattle.std.specs.contracts.impls.GlobalAllocator.TheImpl.{ghosts}
 use Rattle.srm_seat.specs.contracts.seat.Seat.{the_row as R}
-use Rattle.srm_seat.proofs.Values.{both, Loose, loose_good, loose_out}
+use Rattle.srm_handle.proofs.Values.{both, Loose, loose_good, loose_out}
 use Rattle.srm_seat.proofs.Seats.{three, handle_good, handle_in}
 use Rattle.srm_seat.specs.contracts.handle.Handle.hide.{ended as En, clauses}
 use Rattle.srm_seat.specs.contracts.handle.Handle.hide.Key.{name as #self}

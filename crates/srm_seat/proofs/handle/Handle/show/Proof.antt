@@ -28,7 +28,7 @@ use Rattle.std.proofs.alloc.Global.TheLaws.{the_row_laws as LZ}
 use Rattle.std.specs.contracts.impls.GlobalAllocator.TheImpl.{ghosts}
 use Rattle.srm_seat.specs.contracts.seat.Seat.{the_row as R}
 use Rattle.srm_seat.specs.contracts.handle.Handle.{the_row as Handled}
-use Rattle.srm_seat.proofs.Values.{both, Loose, loose_good, loose_in}
+use Rattle.srm_handle.proofs.Values.{both, Loose, loose_good, loose_in}
 use Rattle.std.proofs.Common.{lit<}
 use denote.RawPtr.{ptr_val}
 use Rattle.std.proofs.ResultValues.{and_tt}

@@ -1,0 +1,4 @@
+pub mod Reading
+pub mod Sealing
+pub mod Joining
+pub mod Examples
