@@ -1,5 +1,5 @@
 -- The numbers that calls return to C.
-use Rattle.std.specs.Prelude.{ℕ, Option, Some, None, Result, Ok, Err}
+use Rattle.std.specs.Prelude.{ℕ, Option, Some, None, option_map, Result, Ok, Err}
 use Rattle.srm_codec.specs.declared.fault.DecodeFault.{DecodeFault}
 use Rattle.srm_codec.specs.declared.fault.DecodeFault.TheVariants as decode
 use Rattle.srm_entries.specs.declared.fault.AgentFault.{AgentFault}
@@ -10,7 +10,14 @@ use Rattle.srm_entries.specs.declared.cause.Outcome.TheVariants.{Taken, Ignored}
 use Rattle.srm_entries.specs.declared.state.AgentState.{AgentState}
 use Rattle.srm_entries.specs.declared.state.AgentState.TheVariants as states
 use Rattle.srm_entries.specs.Causes.{cause_number}
-use Rattle.srm_ffi.specs.declared.codes.TheConstants.{DONE}
+use Rattle.srm_room.specs.declared.fault.Fault.{Fault}
+use Rattle.srm_room.specs.declared.fault.Fault.TheVariants as kinds
+use Rattle.srm_room.specs.Readings.{fault_of}
+use Rattle.srm_join.specs.declared.refusal.Refusal.{Refusal}
+use Rattle.srm_join.specs.declared.refusal.Refusal.TheVariants.{NoText, NoRoom}
+use Rattle.srm_join.specs.declared.sealing.SealFault.{SealFault}
+use Rattle.srm_join.specs.declared.sealing.SealFault.TheVariants as seals
+use Rattle.srm_ffi.specs.declared.codes.TheConstants.{DONE, KEY, MEMBER}
 
 abbrev pub fault_number : AgentFault → ℕ
 fault_number faults.Leaving = 1
@@ -57,3 +64,28 @@ decode_fault_of _ = 0
 abbrev pub or_never : Option ℕ → ℕ
 or_never (Some moment) = moment
 or_never None = 18446744073709551615
+
+-- why there is no seal
+abbrev pub seal_fault_number : SealFault → ℕ
+seal_fault_number seals.NoKey = KEY
+seal_fault_number seals.NoMember = MEMBER
+seal_fault_number seals.Memory = 6
+
+-- what is wrong with a text that says no room
+abbrev pub kind_number : Fault → ℕ
+kind_number kinds.NotToml = 2
+kind_number (kinds.Lacks place field) = 3
+kind_number (kinds.Wrong place field) = 4
+kind_number kinds.KeyLength = 5
+kind_number kinds.NoMember = 6
+kind_number kinds.TooMany = 7
+kind_number (kinds.Name member) = 8
+kind_number (kinds.Address member) = 9
+kind_number (kinds.NameTwice member) = 10
+kind_number (kinds.AddressTwice member) = 11
+kind_number (kinds.Unknown place) = 12
+
+-- that it is too long or no text has a number too; that memory ran out has none
+abbrev pub refusal_kind : Refusal → Option ℕ
+refusal_kind NoText = Some 1
+refusal_kind (NoRoom error) = option_map kind_number (fault_of error)

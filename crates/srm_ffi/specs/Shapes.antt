@@ -26,6 +26,10 @@ config_of raw = record { me = raw.me; members = raw.members; session = raw.sessi
 abbrev pub with_settings : Settings → RawConfig → RawConfig
 with_settings s raw = record raw { rate = s.rate; depth = s.depth; c1 = s.c1; c2 = s.c2; d1 = s.d1; d2 = s.d2; least_distance = s.least_distance }
 
+-- this config, and the size as it was
+abbrev pub with_config : Config → RawConfig → RawConfig
+with_config c raw = record { size = raw.size; session = c.session; rate = c.rate; depth = c.depth; me = c.me; members = c.members; c1 = c.c1; c2 = c.c2; d1 = c.d1; d2 = c.d2; least_distance = c.least_distance }
+
 abbrev pub raw_page : Page → RawPage
 raw_page page = record { creator = page.creator; number = page.number }
 

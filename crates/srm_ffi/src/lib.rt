@@ -11,9 +11,11 @@
 mod codes;
 mod drawing;
 mod giving;
+mod guards;
 mod hearing;
 mod missing;
 mod opening;
+mod rooms;
 mod shapes;
 mod telling;
 mod ticking;

@@ -2,7 +2,7 @@
 
 ghost use Rattle.std.specs.Prelude.{◌≡◌, ◌↔◌, IfSome, IsSome};
 ghost use Rattle.srm_entries.specs.Configs.{IsConfig};
-ghost use Rattle.srm_ffi.specs.Shapes.{config_of, raw_heard, raw_message, raw_name, raw_outstanding, raw_page, raw_ticked};
+ghost use Rattle.srm_ffi.specs.Shapes.{config_of, raw_heard, raw_message, raw_name, raw_outstanding, raw_page, raw_ticked, with_config};
 
 use crate::codes::{cause_of, decode_fault_of, of_state, or_never};
 use srm_agent::{Config, Heard, Outstanding, Settings};
@@ -119,7 +119,35 @@ pub struct RawMessage {
     pub kind: u8,
 }
 
+/// What is wrong with a text that is no room, without its words.
+#[repr(C)]
+#[derive(Clone, Copy)]
+pub struct RawRoomFault {
+    /// The line, from 1; 0 if none shows it.
+    pub line: usize,
+    /// The bytes of the words.
+    pub length: usize,
+    /// What it is, 1 to 12.
+    pub kind: u8,
+}
+
 impl RawConfig {
+    /// Writes settings. The size stays.
+    pub fn set(&mut self, config: Config)
+        ensures { self.new ≡ with_config config self.old }
+    {
+        self.session = config.session();
+        self.rate = config.rate();
+        self.depth = config.depth();
+        self.me = config.me().number();
+        self.members = config.members();
+        self.c1 = config.c1();
+        self.c2 = config.c2();
+        self.d1 = config.d1();
+        self.d2 = config.d2();
+        self.least_distance = config.least_distance();
+    }
+
     /// Returns the settings; `None` if one is out of its range, or the member isn't in the roster.
     pub fn config(&self) -> Option<Config>
         ensures known { IsSome result ↔ IsConfig (config_of self.now) }

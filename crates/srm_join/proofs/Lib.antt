@@ -1,3 +1,3 @@
-pub mod Joining
+pub mod Taking
 pub mod RoomSteps
 pub mod SealSteps

@@ -1,6 +1,6 @@
 -- The definitions at worked examples.
 use Rattle.std.specs.Prelude.{◌≡◌, ◌∷◌, [], List, ℕ, codes, replicate, Ok, Err, refl}
-use Rattle.std.proofs.Common.{arith, absurd}
+use Rattle.std.proofs.Common.{arith}
 use Rattle.srm_guard.specs.Seals.{SealView}
 use Rattle.srm_room.specs.Rooms.{Content, person_of}
 use Rattle.srm_join.specs.Joining.{config_in}

@@ -1,17 +1,18 @@
 //! What a room has for one of its members.
 
-ghost use Rattle.std.specs.Prelude.{◌≡◌, ◌<◌, ◌≤◌, length, MatchOption};
-ghost use Rattle.srm_join.specs.Joining.{SealsIn, config_in};
+ghost use Rattle.std.specs.Prelude.{◌≡◌, ◌<◌, ◌≤◌, length, map, option_map, slice_get, MatchOption};
+ghost use Rattle.srm_room.specs.Rooms.{person};
+ghost use Rattle.srm_join.specs.Joining.{SealsIn, address_at, config_in, name_at};
 
 use crate::sealing::{SealFault, seal_by};
 use srm_entries::{Config, Settings};
 use srm_guard::Seal;
 use srm_names::Member;
-use srm_room::Room;
+use srm_room::{Room, RoomMember};
 use std::alloc::Global;
 
 /// Returns the settings of a member's agent: the room's session and settings, and how many members it has. `None` if it has no such member.
-#[tactic(auto, using(crate::proofs::Joining::takes, crate::proofs::Joining::people_count))]
+#[tactic(auto, using(crate::proofs::Taking::takes, crate::proofs::Taking::people_count))]
 pub fn config_in(room: &Room, me: Member) -> Option<Config>
     ensures { MatchOption result (length room.now.people ≤ me) (λ config. (me < length room.now.people) × (config ≡ config_in room.now me)) }
 {
@@ -42,4 +43,31 @@ pub fn seal_in(alloc: Global, room: &Room, me: Member, start: u64) -> Result<Sea
         return Err(SealFault::NoMember);
     }
     seal_by(alloc, room.key(), me, start)
+}
+
+/// Returns the name of the member with this place, from 0. `None` if the room has none such.
+pub fn name_at(room: &Room, place: usize) -> Option<&str>
+    ensures { option_map (λ name. name.now) result ≡ name_at room.now.people place }
+{
+    match member_at(room, place) {
+        Some(member) => Some(member.name.as_str()),
+        None => None,
+    }
+}
+
+/// Returns the address of the member with this place, from 0, as the room has it. `None` if the room has none such.
+pub fn address_at(room: &Room, place: usize) -> Option<&str>
+    ensures { option_map (λ address. address.now) result ≡ address_at room.now.people place }
+{
+    match member_at(room, place) {
+        Some(member) => Some(member.address.as_str()),
+        None => None,
+    }
+}
+
+#[tactic(auto, using(crate::proofs::Taking::person_at))]
+fn member_at(room: &Room, place: usize) -> Option<&RoomMember>
+    ensures { option_map (λ member. person member.now) result ≡ slice_get room.now.people place }
+{
+    room.members().get(place)
 }

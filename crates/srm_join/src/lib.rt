@@ -25,7 +25,7 @@ mod seal_handle;
 mod sealing;
 
 pub use buffers::lay_start;
-pub use joining::{config_in, seal_in};
+pub use joining::{address_at, config_in, name_at, seal_in};
 pub use laws::settings_of_a_room_are_taken;
 pub use reading::{LONGEST_TEXT, read_text};
 pub use refusal::{Refusal, explain};

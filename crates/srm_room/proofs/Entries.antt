@@ -1,8 +1,8 @@
 -- The map of a table with one more key, and how deep a room's document is.
-use Rattle.std.proofs.Common.{◌≡◌, ℕ, ◌≤◌, List, [], ◌∷◌, map, String, Global, Ordering, Less, Equal, Greater, string_bytes, string_cmp, refl, ap, ◌∙◌, arith}
+use Rattle.std.proofs.Common.{◌≡◌, ℕ, ◌≤◌, max, List, [], ◌∷◌, map, String, Global, Ordering, Less, Equal, Greater, string_bytes, string_cmp, refl, ap, ◌∙◌, arith}
 use Rattle.std.specs.BTreeMap.{insert_entry}
 use Rattle.std.specs.Ordering.{match_ordering}
-use Rattle.toml.specs.Data.{members_depth, items_depth}
+use Rattle.toml.specs.Data.{Members, member, members_depth, items_depth}
 use Rattle.toml.specs.View.{view, members_view, items_of}
 use Rattle.toml.specs.declared.value.Value.{Value}
 use Rattle.srm_room.specs.Documents.{document, person_table}

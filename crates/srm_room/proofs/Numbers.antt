@@ -1,8 +1,8 @@
 -- Numbers, the key and the settings of a room's file.
-use Rattle.std.proofs.Common.{◌≡◌, ℕ, ◌<◌, ◌≤◌, ◌&&◌, pos, negsuc, nat_le, le-leb, List, [], ◌∷◌, length, Result, Ok, Err, refl, ap, ◌∙◌, arith}
+use Rattle.std.proofs.Common.{◌≡◌, ℕ, ◌<◌, ◌≤◌, ◌&&◌, pos, negsuc, true, nat_le, le-leb, List, [], ◌∷◌, length, Result, Ok, Err, refl, sym, ap, ◌∙◌, arith}
 use Rattle.std.specs.Prelude.{IfOk}
 use Rattle.std.proofs.lemmas.Bool.{and_parts, leb-true}
-use Rattle.hex.specs.Hex.{IsBytes, decode_of}
+use Rattle.hex.specs.Hex.{IsBytes, decode_of, encode_lower}
 use Rattle.hex.specs.declared.error.FromHexError.{FromHexError}
 use Rattle.hex.proofs.HexLemmas.{decode_of-ok, decode_of-encode_lower}
 use Rattle.toml.specs.Data.{Data, string, integer, float, boolean, datetime, array, table, Items, no_items, item, Members}
@@ -17,7 +17,7 @@ use Rattle.srm_room.specs.declared.reading_settings.Waits.{Waits}
 use Rattle.srm_room.specs.declared.room_settings.RoomSettings.{RoomSettings}
 use Rattle.srm_room.specs.declared.room_settings.TheConstants.{GREATEST_WAIT}
 use Rattle.srm_room.specs.Documents.{document, settings_members}
-use Rattle.srm_room.specs.Readings.{array_of, key_in, key_of_digits, number_in, number_of, setting_in, settings_at, settings_in, table_of, text_in, value_in, wait_of, waits_in, waits_of}
+use Rattle.srm_room.specs.Readings.{◌>>=◌, array_of, key_in, key_of_digits, number_in, number_of, setting_in, settings_at, settings_in, size, table_of, text_in, value_in, wait_of, waits_in, waits_of}
 use Rattle.srm_room.specs.Rooms.{AreSettings, Content, IsFrom}
 use Rattle.srm_room.proofs.Binding.{bind_IfOk, bind_step, test_IfOk, value_of}
 

@@ -1,5 +1,5 @@
 -- The members of a room's file.
-use Rattle.std.proofs.Common.{◌≡◌, ◌≢◌, ℕ, ◌≤◌, ◌<◌, ◌==◌, Bool, true, false, not, suc, get_or, drop, ◌+◌, List, [], ◌∷◌, ◌++◌, length, map, Ok, Err, refl, sym, ap, subst, ◌∙◌, append_assoc, arith}
+use Rattle.std.proofs.Common.{◌≡◌, ◌≢◌, ℕ, ◌≤◌, ◌<◌, ◌==◌, ◌||◌, Bool, true, false, not, suc, get_or, drop, ◌+◌, List, [], ◌∷◌, ◌++◌, length, map, Result, Ok, Err, refl, sym, ap, subst, ◌∙◌, append_assoc, arith}
 use Rattle.std.specs.Prelude.{IfOk, nat_lt}
 use Rattle.std.specs.List.{AllByRecursion}
 use Rattle.std.specs.Str.{bytes_eq}
@@ -16,10 +16,10 @@ use Rattle.srm_room.specs.declared.fault.Fault.{Fault}
 use Rattle.srm_room.specs.declared.field.Field.TheVariants as field
 use Rattle.srm_room.specs.declared.field.Place.TheVariants as place
 use Rattle.srm_room.specs.declared.room_member.RoomMember.{RoomMember}
-use Rattle.srm_room.specs.Documents.{document, person_table}
+use Rattle.srm_room.specs.Documents.{document, person_members, person_table}
 use Rattle.srm_room.specs.Readings.{◌>>=◌, counted, judged, people_behind, people_in, person_at, person_in, table_of, text_in, values_in}
 use Rattle.srm_room.specs.Rooms.{AreApart, ArePeople, Content, Differ, IsFrom, IsPerson, Person, has_address, has_name, is_address, is_name, person}
-use Rattle.srm_room.proofs.Binding.{bind_IfOk, bind_step, guard_IfOk, not_false, value_of}
+use Rattle.srm_room.proofs.Binding.{bind_IfOk, bind_step, guard_IfOk, not_false, test_IfOk, value_of}
 
 pub people_count : (ms : List RoomMember) → length (map person ms) ≡ length ms
 people_count [] = refl

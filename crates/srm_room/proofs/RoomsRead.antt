@@ -1,5 +1,6 @@
 -- Whatever a document says is a room.
-use Rattle.std.proofs.Common.{arith}
+use Rattle.std.proofs.Common.{◌≡◌, ◌<◌, ◌^◌, Ok, arith}
+use Rattle.std.specs.Prelude.{IfOk}
 use Rattle.srm_room.specs.declared.field.Field.TheVariants as field
 use Rattle.srm_room.specs.declared.field.Place.TheVariants as place
 use Rattle.srm_room.specs.Readings.{ReadsRooms, key_in, number_in, people_in, room_in, settings_at}

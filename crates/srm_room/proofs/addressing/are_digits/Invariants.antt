@@ -1,6 +1,7 @@
 use Rattle.std.proofs.Common.{◌≡◌, length}
 use Rattle.std.specs.Char.{is_ascii_digit}
 use Rattle.std.specs.List.{list_all}
+use Rattle.srm_room.specs.Rooms.{is_host, is_bracketed}
 use Rattle.srm_room.proofs.addressing.are_digits.Given as goal
 
 abbrev pub invariant-loop-rest : goal.invariant-loop-rest

@@ -1,5 +1,7 @@
 use Rattle.std.proofs.Common.{◌≡◌, length}
-use Rattle.srm_room.specs.Rooms.{is_host}
+use Rattle.std.specs.Char.{is_ascii_digit}
+use Rattle.std.specs.List.{list_all}
+use Rattle.srm_room.specs.Rooms.{is_host, is_bracketed}
 use Rattle.srm_room.proofs.addressing.is_host.Given as goal
 
 abbrev pub invariant-loop-rest : goal.invariant-loop-rest

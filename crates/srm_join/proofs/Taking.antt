@@ -1,13 +1,19 @@
 -- An agent takes what a room has for its members.
-use Rattle.std.proofs.Common.{◌≡◌, ℕ, ◌<◌, ◌≤◌, List, [], ◌∷◌, length, map, suc, refl, ap, arith}
+use Rattle.std.proofs.Common.{◌≡◌, ℕ, ◌<◌, ◌≤◌, List, [], ◌∷◌, length, map, suc, refl, ap, sym, ◌∙◌, arith}
+use Rattle.std.specs.Prelude.{Option, option_map, slice_get}
+use Rattle.std.proofs.lemmas.Option.{slice_get-map}
 use Rattle.srm_entries.specs.Configs.{IsConfig}
-use Rattle.srm_room.specs.Rooms.{Content, IsRoom, person}
+use Rattle.srm_room.specs.Rooms.{Content, IsRoom, Person, person}
 use Rattle.srm_room.specs.declared.room_member.RoomMember.{RoomMember}
 use Rattle.srm_join.specs.Joining.{TakesSettings, config_in}
 
 pub people_count : (ms : List RoomMember) → length (map person ms) ≡ length ms
 people_count [] = refl
 people_count (m ∷ ms) = ap suc (people_count ms)
+
+-- the member at a place of those that a room has
+pub person_at : (ms : List RoomMember) (people : List Person) (place : ℕ) → map person ms ≡ people → option_map person (slice_get ms place) ≡ slice_get people place
+person_at ms people place are = sym (slice_get-map person ms place) ∙ ap (λ (ps : List Person). slice_get ps place) are
 
 pub takes : TakesSettings
 takes r me room below = let s = room.settings in record {
