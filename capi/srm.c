@@ -4,7 +4,7 @@
 #include <stdlib.h>
 #include <string.h>
 
-/* As crates/srm_seat/src/handle.rt and crates/srm_ffi/src/shapes.rt lay them out. All zeroes is an empty handle. */
+/* As the handles of crates/srm_seat and crates/srm_join, and crates/srm_ffi/src/shapes.rt lay them out. All zeroes is an empty handle. */
 typedef struct srm_handle {
     void *at;
     bool is_full;
@@ -17,7 +17,21 @@ typedef struct srm_raw_message {
     uint8_t kind;
 } srm_raw_message;
 
+typedef struct srm_raw_room_fault {
+    size_t line;
+    size_t length;
+    uint8_t kind;
+} srm_raw_room_fault;
+
 struct srm_agent {
+    srm_handle handle;
+};
+
+struct srm_room {
+    srm_handle handle;
+};
+
+struct srm_guard {
     srm_handle handle;
 };
 
@@ -44,6 +58,20 @@ uint32_t srm_raw_known(srm_handle *, uint8_t, uint16_t, uint8_t, uint32_t *);
 uint32_t srm_raw_missing(srm_handle *, uint8_t, uint16_t, uint8_t, uint32_t *);
 uint32_t srm_raw_next_missing(srm_handle *, uint8_t, uint16_t, uint8_t, uint32_t, uint32_t *);
 uint32_t srm_raw_outstanding(srm_handle *, srm_outstanding *);
+uint32_t srm_raw_room_read(srm_handle *, const uint8_t *, size_t, uint8_t *, size_t, srm_raw_room_fault *);
+void srm_raw_room_close(srm_handle *);
+uint32_t srm_raw_room_members(srm_handle *);
+uint32_t srm_raw_room_linger(srm_handle *);
+uint32_t srm_raw_room_most_missing(srm_handle *);
+uint32_t srm_raw_room_find(srm_handle *, const uint8_t *, size_t, uint32_t *);
+uint32_t srm_raw_room_name(srm_handle *, uint32_t, uint8_t *, size_t, size_t *);
+uint32_t srm_raw_room_address(srm_handle *, uint32_t, uint8_t *, size_t, size_t *);
+uint32_t srm_raw_room_config(srm_handle *, uint8_t, srm_config *);
+uint32_t srm_raw_room_guard(srm_handle *, srm_handle *, uint8_t, uint64_t);
+uint32_t srm_raw_guard_new(srm_handle *, const uint8_t *, size_t, uint8_t, uint64_t);
+void srm_raw_guard_close(srm_handle *);
+uint32_t srm_raw_guard_seal(srm_handle *, uint8_t, const uint8_t *, size_t, uint8_t *, size_t, size_t *);
+uint32_t srm_raw_guard_open(srm_handle *, const uint8_t *, size_t, size_t *);
 
 /* What an empty slice points to. */
 static uint8_t nowhere;
@@ -53,6 +81,8 @@ _Static_assert(sizeof(srm_handle) == 2 * sizeof(void *), "a handle");
 _Static_assert(sizeof(srm_page) == 4 && sizeof(srm_name) == 12, "names");
 _Static_assert(offsetof(srm_config, least_distance) == SRM_CONFIG_SIZE_MIN && sizeof(srm_config) == 32, "settings");
 _Static_assert(sizeof(srm_heard) == 16 && sizeof(srm_ticked) == 32 && sizeof(srm_outstanding) == 48, "answers");
+_Static_assert(sizeof(srm_raw_room_fault) == 24 && offsetof(srm_room_fault, kind) == offsetof(srm_raw_room_fault, kind), "a fault");
+_Static_assert(sizeof(unsigned) == 4, "places");
 _Static_assert(sizeof(srm_raw_message) == 32 && offsetof(srm_message, kind) == offsetof(srm_raw_message, kind), "a message");
 
 int srm_version(void) { return SRM_VERSION; }
@@ -76,13 +106,19 @@ const char *srm_strerror(int code)
     case SRM_ERROR_MOMENT: return "a moment is past 2^48 microseconds";
     case SRM_ERROR_SLOT: return "a slot is past 7";
     case SRM_ERROR_CONFIG: return "a setting is out of its range";
-    case SRM_ERROR_ROOM: return "the room is too short";
-    case SRM_ERROR_EMPTY: return "there is no agent";
+    case SRM_ERROR_BUFFER: return "the buffer is too short";
+    case SRM_ERROR_EMPTY: return "there is no agent, room or guard";
     case SRM_ERROR_PAGE: return "there is no such page";
     case SRM_NOTHING: return "there is nothing more";
-    case SRM_ERROR_FULL: return "there is an agent already";
+    case SRM_ERROR_FULL: return "there is an agent, room or guard already";
     case SRM_ERROR_LENGTH: return "a length is past PTRDIFF_MAX";
-    case SRM_ERROR_MEMBER: return "a member is past 31";
+    case SRM_ERROR_MEMBER: return "there is no such member";
+    case SRM_ERROR_FAULT: return "the text is no room";
+    case SRM_ERROR_KEY: return "a key has 16 to 1024 bytes";
+    case SRM_ERROR_UNTAGGED: return "nobody with the key sealed the bytes for this member";
+    case SRM_ERROR_OLDER: return "an older version tagged the bytes";
+    case SRM_ERROR_AGAIN: return "the bytes came before";
+    case SRM_ERROR_COUNTERS: return "all counters to the member were used";
     default: return "an unknown code";
     }
 }
@@ -192,14 +228,14 @@ int srm_agent_tick(srm_agent *agent, uint64_t now, srm_ticked *ticked)
     return agent ? (int)srm_raw_tick(&agent->handle, now, ticked ? ticked : &unread) : SRM_ERROR_NULL;
 }
 
-int srm_agent_next_datagram(srm_agent *agent, void *room, size_t size, size_t *length)
+int srm_agent_next_datagram(srm_agent *agent, void *buffer, size_t size, size_t *length)
 {
-    if (!agent || !length || (!room && size))
+    if (!agent || !length || (!buffer && size))
         return SRM_ERROR_NULL;
     /* No datagram is longer, and a slice may not be past PTRDIFF_MAX. */
     if (size > SRM_DATAGRAM_MAX)
         size = SRM_DATAGRAM_MAX;
-    return (int)srm_raw_datagram(&agent->handle, room ? room : &nowhere, size, length);
+    return (int)srm_raw_datagram(&agent->handle, buffer ? buffer : &nowhere, size, length);
 }
 
 int srm_agent_next_request(srm_agent *agent, srm_name *name)
@@ -263,4 +299,149 @@ int srm_agent_give(srm_agent *agent, unsigned slot, srm_message *message)
         message->kind = raw.kind;
     }
     return code;
+}
+
+int srm_room_read(srm_room **room, const void *text, size_t length, srm_room_fault *fault)
+{
+    srm_raw_room_fault raw = {0};
+    char words[SRM_FAULT_TEXT_MAX - 1];
+    if (!room)
+        return SRM_ERROR_NULL;
+    *room = NULL;
+    if (!text && length)
+        return SRM_ERROR_NULL;
+    if (length > SRM_ROOM_TEXT_MAX)
+        length = SRM_ROOM_TEXT_MAX + 1; /* still too long, and not read */
+    srm_room *made = calloc(1, sizeof *made);
+    if (!made)
+        return SRM_ERROR_MEMORY;
+    int code = (int)srm_raw_room_read(&made->handle, text ? text : &nowhere, length, (uint8_t *)words, sizeof words, &raw);
+    if (code == SRM_OK)
+        *room = made;
+    else
+        free(made);
+    if (code == SRM_ERROR_FAULT && fault) {
+        fault->line = raw.line;
+        fault->length = raw.length;
+        fault->kind = raw.kind;
+        memcpy(fault->text, words, raw.length);
+        fault->text[raw.length] = 0;
+    }
+    return code;
+}
+
+void srm_room_free(srm_room *room)
+{
+    if (!room)
+        return;
+    srm_raw_room_close(&room->handle);
+    free(room);
+}
+
+unsigned srm_room_members(srm_room *room) { return room ? srm_raw_room_members(&room->handle) : 0; }
+
+uint32_t srm_room_linger(srm_room *room) { return room ? srm_raw_room_linger(&room->handle) : 0; }
+
+uint32_t srm_room_most_missing(srm_room *room) { return room ? srm_raw_room_most_missing(&room->handle) : 0; }
+
+int srm_room_find(srm_room *room, const char *who, unsigned *place)
+{
+    return room && who && place ? (int)srm_raw_room_find(&room->handle, (const uint8_t *)who, strlen(who), place) : SRM_ERROR_NULL;
+}
+
+/* Copies a text of a member to a buffer, with a 0 behind it. */
+static int copy_text(uint32_t (*copy)(srm_handle *, uint32_t, uint8_t *, size_t, size_t *), srm_room *room, unsigned place, char *buffer, size_t size, size_t *length)
+{
+    if (!room || !length || (!buffer && size))
+        return SRM_ERROR_NULL;
+    size_t fits = size < PTRDIFF_MAX ? size : PTRDIFF_MAX;
+    int code = (int)copy(&room->handle, place, buffer ? (uint8_t *)buffer : &nowhere, fits ? fits - 1 : 0, length);
+    if (code == SRM_OK)
+        buffer[*length] = 0; /* no name and no address is empty, so there is a buffer */
+    return code;
+}
+
+int srm_room_name(srm_room *room, unsigned place, char *buffer, size_t size, size_t *length)
+{
+    return copy_text(srm_raw_room_name, room, place, buffer, size, length);
+}
+
+int srm_room_address(srm_room *room, unsigned place, char *buffer, size_t size, size_t *length)
+{
+    return copy_text(srm_raw_room_address, room, place, buffer, size, length);
+}
+
+int srm_room_config(srm_room *room, unsigned me, srm_config *config)
+{
+    if (!room || !config)
+        return SRM_ERROR_NULL;
+    if (config->size != sizeof *config)
+        return SRM_ERROR_CONFIG;
+    return (int)srm_raw_room_config(&room->handle, member_of(me), config);
+}
+
+int srm_guard_new(srm_guard **guard, const void *key, size_t length, unsigned me, uint64_t start)
+{
+    if (!guard)
+        return SRM_ERROR_NULL;
+    *guard = NULL;
+    if (!key && length)
+        return SRM_ERROR_NULL;
+    if (length > SRM_KEY_MAX)
+        length = SRM_KEY_MAX + 1; /* still too long, and not read */
+    srm_guard *made = calloc(1, sizeof *made);
+    if (!made)
+        return SRM_ERROR_MEMORY;
+    int code = (int)srm_raw_guard_new(&made->handle, key ? key : &nowhere, length, member_of(me), start);
+    if (code == SRM_OK)
+        *guard = made;
+    else
+        free(made);
+    return code;
+}
+
+int srm_room_guard(srm_guard **guard, srm_room *room, unsigned me, uint64_t start)
+{
+    if (!guard)
+        return SRM_ERROR_NULL;
+    *guard = NULL;
+    if (!room)
+        return SRM_ERROR_NULL;
+    srm_guard *made = calloc(1, sizeof *made);
+    if (!made)
+        return SRM_ERROR_MEMORY;
+    int code = (int)srm_raw_room_guard(&room->handle, &made->handle, member_of(me), start);
+    if (code == SRM_OK)
+        *guard = made;
+    else
+        free(made);
+    return code;
+}
+
+void srm_guard_free(srm_guard *guard)
+{
+    if (!guard)
+        return;
+    srm_raw_guard_close(&guard->handle);
+    free(guard);
+}
+
+int srm_guard_seal(srm_guard *guard, unsigned to, const void *datagram, size_t length, void *buffer, size_t size, size_t *sealed)
+{
+    if (!guard || !sealed || (!datagram && length) || (!buffer && size))
+        return SRM_ERROR_NULL;
+    if (length > PTRDIFF_MAX)
+        return SRM_ERROR_LENGTH;
+    if (size > PTRDIFF_MAX)
+        size = PTRDIFF_MAX;
+    return (int)srm_raw_guard_seal(&guard->handle, member_of(to), datagram ? datagram : &nowhere, length, buffer ? buffer : &nowhere, size, sealed);
+}
+
+int srm_guard_open(srm_guard *guard, const void *bytes, size_t length, size_t *opened)
+{
+    if (!guard || !opened || (!bytes && length))
+        return SRM_ERROR_NULL;
+    if (length > PTRDIFF_MAX)
+        return SRM_ERROR_LENGTH;
+    return (int)srm_raw_guard_open(&guard->handle, bytes ? bytes : &nowhere, length, opened);
 }

@@ -19,12 +19,30 @@
  *
  *     // One timer, set to srm_agent_next_due(agent) after each call. When it expires:
  *     if (srm_agent_tick(agent, now, NULL) != SRM_OK) ..
- *     while (srm_agent_next_datagram(agent, room, sizeof room, &length) == SRM_OK)
- *         send_to_all_others(room, length);
+ *     while (srm_agent_next_datagram(agent, buffer, sizeof buffer, &length) == SRM_OK)
+ *         send_to_all_others(buffer, length);
  *     // When a datagram comes:
  *     if (srm_agent_hear(agent, bytes, length, now, NULL) != SRM_OK) ..
  *     // After each of these calls, for each slot from 0 to 7:
  *     while (srm_agent_give(agent, slot, &message) == SRM_OK) ..
+ * @endcode
+ *
+ * Members of one room have a file in common, which `srm room new` writes: the session, a key, names and addresses. srm_room_read() reads
+ * it, and a guard seals what goes to each member and opens what comes, so that nobody without the key takes part:
+ *
+ * @code
+ *     srm_room *room;
+ *     if (srm_room_read(&room, text, length, &fault) != SRM_OK) .. // fault.line, fault.text
+ *     if (srm_room_find(room, "ada", &me) != SRM_OK) ..
+ *     if (srm_room_config(room, me, &config) != SRM_OK) ..         // behind srm_config_default(&config)
+ *     srm_guard *guard;
+ *     if (srm_room_guard(&guard, room, me, micros_since_1970) != SRM_OK) ..
+ *
+ *     // For each other member, in place of the datagram alone:
+ *     if (srm_guard_seal(guard, to, buffer, length, sealed, sizeof sealed, &sealed_length) != SRM_OK) ..
+ *     // When bytes come:
+ *     if (srm_guard_open(guard, bytes, length, &length) == SRM_OK)
+ *         if (srm_agent_hear(agent, bytes, length, now, NULL) != SRM_OK) ..
  * @endcode
  *
  * @par Units
@@ -33,24 +51,26 @@
  *
  * @par What calls return
  * ::SRM_OK, or another value of ::srm_code. A call that returns anything else changed nothing: neither the agent nor what it
- * would have written, unless the call says otherwise. What other members send is never an error.
+ * would have written, unless the call says otherwise. What other members send is never an error of srm_agent_hear(); srm_guard_open() refuses
+ * what is not to be heard.
  *
  * @par Ownership
- * srm_agent_new() makes an agent, srm_agent_free() ends it, and in between it belongs to the caller. No call keeps a pointer that it
- * was passed, and none returns a pointer into the agent: what comes out is copied into memory of the caller's.
+ * srm_agent_new() makes an agent, srm_agent_free() ends it, and in between it belongs to the caller; so it is with rooms and guards. No call keeps a pointer
+ * that it was passed, and none returns a pointer into what it was passed: what comes out is copied into memory of the caller's. A guard keeps its own copy of the
+ * key, and a room may be freed before it.
  *
  * @par Threads
- * An agent may move from thread to thread, but one call of it runs at a time: use a lock where several threads share it.
+ * An agent, a room or a guard may move from thread to thread, but one call of it runs at a time: use a lock where several threads share it.
  * srm_agent_next_due(), srm_agent_state() and the other calls that only ask count as calls too. Different agents share nothing and
  * may be used at once. No call may come from a signal handler, or from the child of a fork in a process with threads.
  *
  * @par Rules that a caller may break
- * A NULL pointer, a moment past ::SRM_MOMENT_MAX, a slot past 7, a member past 31, a page that is not there, a room that is too
+ * A NULL pointer, a moment past ::SRM_MOMENT_MAX, a slot past 7, a member past 31, a page that is not there, a buffer that is too
  * short and a length past PTRDIFF_MAX are refused with a code. C cannot see, and so no call tests: a pointer to something else, an agent
  * after srm_agent_free(), memory that is shorter than the length says, pointers of one call that overlap, two calls of one agent at once.
  *
  * @par Memory
- * comes from malloc, calloc, realloc and free. Where it is refused the call returns ::SRM_ERROR_MEMORY, and keeps what room it got. Make
+ * comes from malloc, calloc, realloc and free. Where it is refused the call returns ::SRM_ERROR_MEMORY, and keeps what memory it got. Make
  * the same call again later, or let it be: a datagram that is not heard counts as lost, a tick stays due, and a message is still to be
  * given.
  */
@@ -111,6 +131,17 @@ extern "C" {
 #define SRM_DISTANCE_MIN 1     /**< The least floor under distances, which is none. */
 /** @} */
 
+/** @name Limits of rooms and guards
+ * @{ */
+#define SRM_ROOM_TEXT_MAX 65536 /**< Bytes of a room's text. */
+#define SRM_NAME_MAX 160        /**< Bytes of a member's name: 40 characters. */
+#define SRM_FAULT_TEXT_MAX 256  /**< Bytes of ::srm_room_fault::text, with the 0 at its end. */
+#define SRM_KEY_MIN 16          /**< Bytes of a key, at least. */
+#define SRM_KEY_MAX 1024        /**< Bytes of a key, at most. */
+#define SRM_SEAL_BYTES 25       /**< Bytes that a guard puts behind a datagram. */
+#define SRM_SEALED_MAX 6423     /**< Bytes of a datagram that is sealed. */
+/** @} */
+
 /** What a call returns. 1 to 6 are the agent's faults, by their numbers; from 16 on they are of this interface. */
 enum srm_code {
     SRM_OK = 0,                /**< Done. */
@@ -124,13 +155,19 @@ enum srm_code {
     SRM_ERROR_MOMENT = 17,     /**< A moment is past ::SRM_MOMENT_MAX. */
     SRM_ERROR_SLOT = 18,       /**< A slot is past 7. */
     SRM_ERROR_CONFIG = 19,     /**< A setting is out of its range, or `me` is not below `members`. */
-    SRM_ERROR_ROOM = 20,       /**< The room is too short. */
-    SRM_ERROR_EMPTY = 21,      /**< There is no agent: its memory is all zeroes, which no agent's is between new and free. */
+    SRM_ERROR_BUFFER = 20,     /**< The buffer is too short. */
+    SRM_ERROR_EMPTY = 21,      /**< There is no agent, room or guard: its memory is all zeroes, which it never is between new and free. */
     SRM_ERROR_PAGE = 22,       /**< A page's creator is past 31, or this member has no page left to begin. */
     SRM_NOTHING = 23,          /**< No error: there is nothing (more) to be taken. */
-    SRM_ERROR_FULL = 24,       /**< The memory of an agent is in use. No call of this header leads to it. */
+    SRM_ERROR_FULL = 24,       /**< The memory of an agent, room or guard is in use. No call of this header leads to it. */
     SRM_ERROR_LENGTH = 25,     /**< A length is past PTRDIFF_MAX. */
-    SRM_ERROR_MEMBER = 26      /**< A member is past 31. */
+    SRM_ERROR_MEMBER = 26,     /**< A member is past 31, or the room has no such member. */
+    SRM_ERROR_FAULT = 27,      /**< The text is no room: ::srm_room_fault says why. */
+    SRM_ERROR_KEY = 28,        /**< The key has fewer than ::SRM_KEY_MIN bytes, or more than ::SRM_KEY_MAX. */
+    SRM_ERROR_UNTAGGED = 29,   /**< Nobody with the key sealed the bytes for this member. */
+    SRM_ERROR_OLDER = 30,      /**< Nobody did, but an older version tagged them by this key. */
+    SRM_ERROR_AGAIN = 31,      /**< The bytes came before, or so late that this can't be told. */
+    SRM_ERROR_COUNTERS = 32    /**< All counters to the member were used. */
 };
 
 /** Returns ::SRM_VERSION of the library. */
@@ -355,18 +392,18 @@ typedef struct srm_ticked {
 SRM_CHECKED SRM_API int srm_agent_tick(srm_agent *agent, uint64_t now, srm_ticked *ticked);
 
 /**
- * Takes the next datagram that the last tick left to be sent, and copies it to the front of `room`. Send it to all other members, once.
+ * Takes the next datagram that the last tick left to be sent, and copies it to the front of `buffer`. Send it to all other members, once.
  *
- * Where it does not fit, nothing is copied, it stays the next, and `*length` says how many bytes it takes. A room of
+ * Where it does not fit, nothing is copied, it stays the next, and `*length` says how many bytes it takes. A buffer of
  * ::SRM_DATAGRAM_MAX bytes always does.
  *
  * @param agent        the agent
- * @param[out] room    where it goes; may be NULL where `size` is 0
- * @param size         bytes of `room`
+ * @param[out] buffer  where it goes; may be NULL where `size` is 0
+ * @param size         bytes of `buffer`
  * @param[out] length  how many bytes the datagram has
- * @return ::SRM_OK; ::SRM_ERROR_NULL; ::SRM_ERROR_EMPTY; ::SRM_NOTHING; ::SRM_ERROR_ROOM, and then `*length` is written too
+ * @return ::SRM_OK; ::SRM_ERROR_NULL; ::SRM_ERROR_EMPTY; ::SRM_NOTHING; ::SRM_ERROR_BUFFER, and then `*length` is written too
  */
-SRM_CHECKED SRM_API int srm_agent_next_datagram(srm_agent *agent, void *room, size_t size, size_t *length);
+SRM_CHECKED SRM_API int srm_agent_next_datagram(srm_agent *agent, void *buffer, size_t size, size_t *length);
 
 /**
  * Takes the next name that the last tick asked for, in order; for logs alone.
@@ -498,6 +535,196 @@ typedef struct srm_message {
  *         this version never returns it, as giving takes no memory
  */
 SRM_CHECKED SRM_API int srm_agent_give(srm_agent *agent, unsigned slot, srm_message *message);
+
+/** What is wrong with a text that is no room. */
+enum srm_room_fault_kind {
+    SRM_FAULT_NO_TEXT = 1,        /**< It is no UTF-8, or has more than ::SRM_ROOM_TEXT_MAX bytes. */
+    SRM_FAULT_NOT_TOML = 2,       /**< It is no TOML. */
+    SRM_FAULT_LACKS = 3,          /**< A key lacks. */
+    SRM_FAULT_WRONG = 4,          /**< What stands at a key is not of its kind, or out of its range. */
+    SRM_FAULT_KEY_LENGTH = 5,     /**< The key of the session has fewer than ::SRM_KEY_MIN bytes, or more than ::SRM_KEY_MAX. */
+    SRM_FAULT_NO_MEMBER = 6,      /**< There is no member. */
+    SRM_FAULT_TOO_MANY = 7,       /**< There are more than ::SRM_MEMBERS_MAX members. */
+    SRM_FAULT_NAME = 8,           /**< A name is not 1 to 40 characters without space, control character or `=`, or is a number. */
+    SRM_FAULT_ADDRESS = 9,        /**< An address is not `IPv4:port`, `[IPv6]:port` or `host:port`, with a port from 1 to 65,535. */
+    SRM_FAULT_NAME_TWICE = 10,    /**< Two members have one name. */
+    SRM_FAULT_ADDRESS_TWICE = 11, /**< Two members have one address. */
+    SRM_FAULT_UNKNOWN = 12        /**< There is a key that is not known. */
+};
+
+/** The first fault of a text that is no room. */
+typedef struct srm_room_fault {
+    size_t line;   /**< The line that it is in, from 1; 0 where none shows it. */
+    size_t length; /**< Bytes of `text`, without the 0 at its end. */
+    uint8_t kind;  /**< One of ::srm_room_fault_kind. */
+    char text[SRM_FAULT_TEXT_MAX]; /**< What is wrong and what to write instead, in one line of English that ends with a 0. */
+} srm_room_fault;
+
+/** What the members of a session have in common: the session, the key, names and addresses, and settings. Its memory belongs to the library. */
+typedef struct srm_room srm_room;
+
+/**
+ * Reads a room from TOML in UTF-8, as `srm room new` writes it, and writes it to `*room`; on an error that is NULL.
+ *
+ * @param[out] room   the room, which the caller ends with srm_room_free()
+ * @param text        the text; may be NULL where `length` is 0
+ * @param length      how many bytes it has
+ * @param[out] fault  where the text is no room, what is wrong with it; may be NULL
+ * @return ::SRM_OK; ::SRM_ERROR_NULL; ::SRM_ERROR_FAULT, and then `*fault` is written; ::SRM_ERROR_MEMORY
+ */
+SRM_CHECKED SRM_API int srm_room_read(srm_room **room, const void *text, size_t length, srm_room_fault *fault);
+
+/**
+ * Ends a room, and frees all that it holds.
+ *
+ * @param room  the room, which no call may take any more; NULL is passed over
+ */
+SRM_API void srm_room_free(srm_room *room);
+
+/**
+ * Says how many members a room has.
+ *
+ * @param room  the room
+ * @return how many, 1 to ::SRM_MEMBERS_MAX; 0 where there is no room
+ */
+SRM_API unsigned srm_room_members(srm_room *room);
+
+/**
+ * Writes the place of a member, by its name or by the place itself as digits. A member's place is its `me`.
+ *
+ * @param room        the room
+ * @param who         a text that ends with a 0: a name, which is never a number, or a place, from 0
+ * @param[out] place  the place, below srm_room_members()
+ * @return ::SRM_OK; ::SRM_ERROR_NULL; ::SRM_ERROR_EMPTY; ::SRM_ERROR_MEMBER where the room has no such member
+ */
+SRM_CHECKED SRM_API int srm_room_find(srm_room *room, const char *who, unsigned *place);
+
+/**
+ * Copies the name of a member to the front of `buffer`, with a 0 at its end.
+ *
+ * Where it does not fit, nothing is copied, and `*length` says how many bytes it has without the 0. ::SRM_NAME_MAX and one more always do.
+ *
+ * @param room         the room
+ * @param place        the member's place, from 0
+ * @param[out] buffer  where it goes, in UTF-8; may be NULL where `size` is 0
+ * @param size         bytes of `buffer`
+ * @param[out] length  how many bytes the name has, without the 0
+ * @return ::SRM_OK; ::SRM_ERROR_NULL; ::SRM_ERROR_EMPTY; ::SRM_ERROR_MEMBER where the room has no such member; ::SRM_ERROR_BUFFER, and then
+ *         `*length` is written too
+ */
+SRM_CHECKED SRM_API int srm_room_name(srm_room *room, unsigned place, char *buffer, size_t size, size_t *length);
+
+/**
+ * Copies the address of a member to the front of `buffer`, with a 0 at its end: `IPv4:port`, `[IPv6]:port` or `host:port`, as the room has it. The library
+ * resolves no host.
+ *
+ * Where it does not fit, nothing is copied, and `*length` says how many bytes it has without the 0.
+ *
+ * @param room         the room
+ * @param place        the member's place, from 0
+ * @param[out] buffer  where it goes, in ASCII; may be NULL where `size` is 0
+ * @param size         bytes of `buffer`
+ * @param[out] length  how many bytes the address has, without the 0
+ * @return ::SRM_OK; ::SRM_ERROR_NULL; ::SRM_ERROR_EMPTY; ::SRM_ERROR_MEMBER where the room has no such member; ::SRM_ERROR_BUFFER, and then
+ *         `*length` is written too
+ */
+SRM_CHECKED SRM_API int srm_room_address(srm_room *room, unsigned place, char *buffer, size_t size, size_t *length);
+
+/**
+ * Writes the settings of a member's agent: its place, and the session, the number of members and the settings of the room. srm_agent_new() never refuses them.
+ *
+ * @param room            the room
+ * @param me              the member's place, from 0
+ * @param[in,out] config  the settings, which srm_config_default() filled before
+ * @return ::SRM_OK; ::SRM_ERROR_NULL; ::SRM_ERROR_CONFIG where `size` is none that this library writes; ::SRM_ERROR_EMPTY; ::SRM_ERROR_MEMBER where the room has
+ *         no such member
+ */
+SRM_CHECKED SRM_API int srm_room_config(srm_room *room, unsigned me, srm_config *config);
+
+/**
+ * Says how long a member of a room stays, after its user is done, for others that miss what it holds: until nobody asked for anything for so long.
+ *
+ * @param room  the room
+ * @return microseconds, at most 30,000,000; 0 where there is no room
+ */
+SRM_API uint32_t srm_room_linger(srm_room *room);
+
+/**
+ * Says how many strokes a member of a room may miss at once. The library sets no such bound: who wants one looks at ::srm_outstanding::missing.
+ *
+ * @param room  the room
+ * @return how many, 1 to 16,777,216; 0 where there is no room
+ */
+SRM_API uint32_t srm_room_most_missing(srm_room *room);
+
+/**
+ * What seals the datagrams that a member sends, and opens what comes, by a key that all members share. Its memory belongs to the library.
+ *
+ * Behind each datagram to a member stand its sender, a counter and a tag of all that. So a guard opens only what somebody with the key sealed for its member, and each such
+ * datagram once. A key hides nothing, and does not tell one member from another: a member may lie.
+ */
+typedef struct srm_guard srm_guard;
+
+/**
+ * Makes a guard by a key, and writes it to `*guard`; on an error that is NULL. It takes some 70 KiB.
+ *
+ * Its counters begin at `start`, which must be above all that this member used under this key before, or others drop what it sends: pass the time of day.
+ *
+ * @param[out] guard  the guard, which the caller ends with srm_guard_free()
+ * @param key         the key, which is copied; best 32 random bytes. May be NULL where `length` is 0
+ * @param length      how many bytes it has, ::SRM_KEY_MIN to ::SRM_KEY_MAX
+ * @param me          this member, 0 to 31
+ * @param start       microseconds since 1970
+ * @return ::SRM_OK; ::SRM_ERROR_NULL; ::SRM_ERROR_MEMBER where `me` is past 31; ::SRM_ERROR_KEY; ::SRM_ERROR_MEMORY
+ */
+SRM_CHECKED SRM_API int srm_guard_new(srm_guard **guard, const void *key, size_t length, unsigned me, uint64_t start);
+
+/**
+ * Makes a guard by the key of a room, as srm_guard_new() does, and writes it to `*guard`; on an error that is NULL.
+ *
+ * @param[out] guard  the guard, which the caller ends with srm_guard_free()
+ * @param room        the room
+ * @param me          this member's place, from 0
+ * @param start       microseconds since 1970
+ * @return ::SRM_OK; ::SRM_ERROR_NULL; ::SRM_ERROR_EMPTY; ::SRM_ERROR_MEMBER where the room has no such member; ::SRM_ERROR_MEMORY
+ */
+SRM_CHECKED SRM_API int srm_room_guard(srm_guard **guard, srm_room *room, unsigned me, uint64_t start);
+
+/**
+ * Ends a guard, and frees all that it holds.
+ *
+ * @param guard  the guard, which no call may take any more; NULL is passed over
+ */
+SRM_API void srm_guard_free(srm_guard *guard);
+
+/**
+ * Copies a datagram to the front of `buffer` and seals it for a member: ::SRM_SEAL_BYTES stand behind it. Seal a datagram anew for each member, and for each time that it is sent.
+ *
+ * Where it does not fit, nothing is copied, and `*sealed` says how many bytes it takes. A buffer of ::SRM_SEALED_MAX bytes always does for what
+ * srm_agent_next_datagram() copies.
+ *
+ * @param guard        the guard
+ * @param to           the member that it goes to, 0 to 31
+ * @param datagram     the datagram; may be NULL where `length` is 0
+ * @param length       how many bytes it has
+ * @param[out] buffer  where it goes; may be NULL where `size` is 0. It must not overlap the datagram
+ * @param size         bytes of `buffer`
+ * @param[out] sealed  how many bytes it has, sealed
+ * @return ::SRM_OK; ::SRM_ERROR_NULL; ::SRM_ERROR_LENGTH; ::SRM_ERROR_MEMBER where `to` is past 31; ::SRM_ERROR_EMPTY; ::SRM_ERROR_BUFFER, and then `*sealed` is
+ *         written too; ::SRM_ERROR_COUNTERS
+ */
+SRM_CHECKED SRM_API int srm_guard_seal(srm_guard *guard, unsigned to, const void *datagram, size_t length, void *buffer, size_t size, size_t *sealed);
+
+/**
+ * Opens bytes that came from the network, whatever they are. Hear the first `*opened` of them where it returns ::SRM_OK, and drop them else: that counts as lost.
+ *
+ * @param guard        the guard
+ * @param bytes        what came; may be NULL where `length` is 0
+ * @param length       how many there are
+ * @param[out] opened  how many of them, from the front, are a datagram
+ * @return ::SRM_OK; ::SRM_ERROR_NULL; ::SRM_ERROR_LENGTH; ::SRM_ERROR_EMPTY; ::SRM_ERROR_UNTAGGED; ::SRM_ERROR_OLDER; ::SRM_ERROR_AGAIN
+ */
+SRM_CHECKED SRM_API int srm_guard_open(srm_guard *guard, const void *bytes, size_t length, size_t *opened);
 
 #ifdef __cplusplus
 }

@@ -113,7 +113,7 @@ static void tick(struct member *m, uint64_t now)
         uint64_t place = below(KEPT);
         size_t length;
         /* A room that is too short first: nothing is lost by it. The shortest datagram has 17 bytes. */
-        WANT(srm_agent_next_datagram(m->agent, kept[place], below(17), &length), SRM_ERROR_ROOM);
+        WANT(srm_agent_next_datagram(m->agent, kept[place], below(17), &length), SRM_ERROR_BUFFER);
         WANT(srm_agent_next_datagram(m->agent, kept[place], length, &lengths[place]), SRM_OK);
         WANT(lengths[place], length);
         tell(m, UNTOLD);

@@ -129,8 +129,8 @@ static void make(srm_agent *agent, srm_agent *twin, const struct given *g)
     if (wanted != SRM_OK)
         WANT(code, wanted);
     else
-        WANT(code == SRM_OK || code == SRM_NOTHING || code == SRM_ERROR_ROOM || code == SRM_ERROR_PAGE || code <= SRM_ERROR_BODY_LONG, 1);
-    if (code == SRM_ERROR_ROOM) {
+        WANT(code == SRM_OK || code == SRM_NOTHING || code == SRM_ERROR_BUFFER || code == SRM_ERROR_PAGE || code <= SRM_ERROR_BODY_LONG, 1);
+    if (code == SRM_ERROR_BUFFER) {
         WANT(g->function == DATAGRAM && out.length > g->length, 1);
         out.length = filled.length;
     }

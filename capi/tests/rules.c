@@ -369,7 +369,7 @@ static void short_rooms(void)
     WANT(srm_agent_next_datagram(a, room, 1, NULL), SRM_ERROR_NULL);
     for (size_t size = 0; size < 27; size++) {
         length = 0;
-        WANT(srm_agent_next_datagram(a, size ? room : NULL, size, &length), SRM_ERROR_ROOM);
+        WANT(srm_agent_next_datagram(a, size ? room : NULL, size, &length), SRM_ERROR_BUFFER);
         WANT(length, 27);
     }
     STAYS(room);
@@ -377,7 +377,7 @@ static void short_rooms(void)
     WANT(length, 27);
     WANT(room[0] == 'S' && room[1] == 'R', 1);
     WANT(is_filled(room + 27, sizeof room - 27), 1);
-    WANT(srm_agent_next_datagram(a, room, 1050, &length), SRM_ERROR_ROOM);
+    WANT(srm_agent_next_datagram(a, room, 1050, &length), SRM_ERROR_BUFFER);
     WANT(length, 1051);
     WANT(srm_agent_next_datagram(a, room, SIZE_MAX, &length), SRM_OK);
     WANT(length, 1051);

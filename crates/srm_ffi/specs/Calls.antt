@@ -20,7 +20,7 @@ use Rattle.srm_seat.specs.Asking.{IsDistance, IsNextMissing, IsPageToCome, IsSta
 use Rattle.srm_seat.specs.Calls.{Draws, Gives, HearsBytes, laid_over, Leaves, Shows, TakesDatagram, TakesRepair, TakesRequest, Ticks}
 use Rattle.srm_seat.specs.declared.seat.Handover.{Handover}
 use Rattle.srm_seat.specs.declared.seat.Handover.TheVariants.{Nothing, Short, Copied}
-use Rattle.srm_ffi.specs.declared.codes.TheConstants.{DONE, EMPTY, FULL, MEMBER, NOTHING, PAGE, ROOM}
+use Rattle.srm_ffi.specs.declared.codes.TheConstants.{DONE, EMPTY, FULL, MEMBER, NOTHING, PAGE, BUFFER}
 use Rattle.srm_ffi.specs.declared.shapes.RawHeard.{RawHeard}
 use Rattle.srm_ffi.specs.declared.shapes.RawMessage.{RawMessage}
 use Rattle.srm_ffi.specs.declared.shapes.RawName.{RawName}
@@ -95,7 +95,7 @@ RepairCall code before after =
 -- whether a datagram was copied, with its length, or with the length of the room that it takes
 abbrev pub TellsHandover : Handover → ℕ → ℕ → ℕ → Type 0
 TellsHandover Nothing code before after = (code ≡ NOTHING) × (after ≡ before)
-TellsHandover (Short length) code before after = (code ≡ ROOM) × (after ≡ length)
+TellsHandover (Short length) code before after = (code ≡ BUFFER) × (after ≡ length)
 TellsHandover (Copied length) code before after = (code ≡ DONE) × (after ≡ length)
 
 abbrev pub DatagramCall : ℕ → List ℕ → List ℕ → ℕ → ℕ → Option SeatContent → Option SeatContent → Type 0

@@ -13,7 +13,7 @@ use Rattle.srm_join.specs.declared.refusal.Refusal.{Refusal}
 use Rattle.srm_join.specs.declared.sealing.SealFault.{SealFault}
 use Rattle.srm_join.specs.declared.sealing.Sealed.{Sealed}
 use Rattle.srm_join.specs.declared.sealing.Sealed.TheVariants as sealed
-use Rattle.srm_ffi.specs.declared.codes.TheConstants.{AGAIN, COUNTERS, DONE, EMPTY, FAULT, FULL, MEMBER, OLDER, ROOM, UNTAGGED}
+use Rattle.srm_ffi.specs.declared.codes.TheConstants.{AGAIN, COUNTERS, DONE, EMPTY, FAULT, FULL, MEMBER, OLDER, BUFFER, UNTAGGED}
 use Rattle.srm_ffi.specs.declared.shapes.RawConfig.{RawConfig}
 use Rattle.srm_ffi.specs.declared.shapes.RawRoomFault.{RawRoomFault}
 use Rattle.srm_ffi.specs.Codes.{refusal_kind, seal_fault_number}
@@ -76,7 +76,7 @@ FindCall me code before after = Asks (λ room. TellsMember (member_of room.peopl
 -- a text over a buffer with its length; where it doesn't fit its length alone; or that there is none
 abbrev pub TellsText : Option (List ℕ) → ℕ → List ℕ → List ℕ → ℕ → ℕ → Type 0
 TellsText (Some text) code buffer filled before after =
-    (code ≡ if nat_le (length text) (length buffer) then DONE else ROOM) × (filled ≡ laid_over text buffer) × (after ≡ length text)
+    (code ≡ if nat_le (length text) (length buffer) then DONE else BUFFER) × (filled ≡ laid_over text buffer) × (after ≡ length text)
 TellsText None code buffer filled before after = (code ≡ MEMBER) × (filled ≡ buffer) × (after ≡ before)
 
 abbrev pub NameCall : ℕ → ℕ → List ℕ → List ℕ → ℕ → ℕ → Option Content → Option Content → Type 0
@@ -111,7 +111,7 @@ SealInCall me start code old new = Asks (λ room. MakesSeal (SealsIn room me sta
 -- what became of a datagram that was to be sealed
 abbrev pub TellsSealed : Sealed → ℕ → ℕ → ℕ → Type 0
 TellsSealed (sealed.Done n) code before after = (code ≡ DONE) × (after ≡ n)
-TellsSealed (sealed.Short n) code before after = (code ≡ ROOM) × (after ≡ n)
+TellsSealed (sealed.Short n) code before after = (code ≡ BUFFER) × (after ≡ n)
 TellsSealed sealed.UsedUp code before after = (code ≡ COUNTERS) × (after ≡ before)
 
 abbrev pub SealCall : ℕ → List ℕ → ℕ → List ℕ → List ℕ → ℕ → ℕ → Option SealView → Option SealView → Type 0

@@ -20,8 +20,8 @@ pub const SLOT: u32 = 18;
 /// A setting is out of its range, or the member isn't in the roster.
 pub const CONFIG: u32 = 19;
 
-/// The room is too short.
-pub const ROOM: u32 = 20;
+/// The buffer is too short.
+pub const BUFFER: u32 = 20;
 
 /// The handle holds no agent.
 pub const EMPTY: u32 = 21;

@@ -3,11 +3,11 @@
 ghost use Rattle.std.specs.Prelude.{◌≡◌, ◌≤◌, ◌<◌, length};
 ghost use Rattle.srm_names.specs.declared.limits.TheConstants.{LONGEST_BODY, PAGES};
 ghost use Rattle.srm_seat.specs.Calls.{laid_over};
-ghost use Rattle.srm_ffi.specs.declared.codes.TheConstants.{ROOM, SLOT};
+ghost use Rattle.srm_ffi.specs.declared.codes.TheConstants.{BUFFER, SLOT};
 ghost use Rattle.srm_ffi.specs.Shapes.{body_of};
 ghost use Rattle.srm_ffi.specs.Calls.{GiveCall, IsRefused, TellsMessage};
 
-use crate::codes::{DONE, EMPTY, NOTHING, ROOM, SLOT, of_fault};
+use crate::codes::{DONE, EMPTY, NOTHING, BUFFER, SLOT, of_fault};
 use crate::shapes::RawMessage;
 use srm_agent::AgentFault;
 use srm_names::{LONGEST_BODY, PAGES, PageMsg};
@@ -16,7 +16,7 @@ use std::alloc::Global;
 
 /// Takes the next message of a page slot, 0 to 7, writes it, and copies its whole body, if it has one, to the front of the room.
 ///
-/// Returns `DONE` or the first of these that holds: `SLOT`; `ROOM` if the room has fewer bytes than the longest body, 1,024; `EMPTY`; `NOTHING`
+/// Returns `DONE` or the first of these that holds: `SLOT`; `BUFFER` if the room has fewer bytes than the longest body, 1,024; `EMPTY`; `NOTHING`
 /// if no message is left; the agent's fault.
 #[unsafe(no_mangle)]
 pub extern "C" fn srm_raw_give(
@@ -27,14 +27,14 @@ pub extern "C" fn srm_raw_give(
     message: &mut RawMessage,
 ) -> u32
     ensures no_slot { PAGES ≤ slot → IsRefused SLOT result handle.old.value handle.new.value × (room.new ≡ room.old) × (message.new ≡ message.old) }
-    ensures short { slot < PAGES → length room.old < LONGEST_BODY → IsRefused ROOM result handle.old.value handle.new.value × (room.new ≡ room.old) × (message.new ≡ message.old) }
+    ensures short { slot < PAGES → length room.old < LONGEST_BODY → IsRefused BUFFER result handle.old.value handle.new.value × (room.new ≡ room.old) × (message.new ≡ message.old) }
     ensures gives { slot < PAGES → LONGEST_BODY ≤ length room.old → GiveCall slot result room.old room.new message.old message.new handle.old.value handle.new.value }
 {
     if slot >= PAGES {
         return SLOT;
     }
     if room.len() < usize::from(LONGEST_BODY) {
-        return ROOM;
+        return BUFFER;
     }
     let Some(mut seat) = handle.take(alloc) else {
         return EMPTY;

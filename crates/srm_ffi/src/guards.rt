@@ -8,7 +8,7 @@ ghost use Rattle.srm_ffi.specs.declared.codes.TheConstants.{MEMBER};
 ghost use Rattle.srm_ffi.specs.Joins.{MakesSeal, OpenCall, Refuses, SealByCall, SealCall, SealInCall, TellsOpened, TellsSealed};
 
 use crate::codes::{
-    AGAIN, COUNTERS, DONE, EMPTY, FULL, MEMBER, OLDER, ROOM, UNTAGGED, of_seal_fault,
+    AGAIN, COUNTERS, DONE, EMPTY, FULL, MEMBER, OLDER, BUFFER, UNTAGGED, of_seal_fault,
 };
 use srm_guard::{Opened, Seal};
 use srm_join::{
@@ -125,7 +125,7 @@ pub extern "C" fn srm_raw_guard_close(alloc: Global, handle: &mut SealHandle)
 
 /// Puts a datagram to a member, sealed, to the front of a buffer, and writes its length: 25 more bytes than the datagram has.
 ///
-/// Returns `DONE` or the first of these that holds: `MEMBER` if the member is past 31; `EMPTY`; `ROOM` if it doesn't fit, and then its length is written too; `COUNTERS` if all
+/// Returns `DONE` or the first of these that holds: `MEMBER` if the member is past 31; `EMPTY`; `BUFFER` if it doesn't fit, and then its length is written too; `COUNTERS` if all
 /// counters to the member were used.
 #[unsafe(no_mangle)]
 pub extern "C" fn srm_raw_guard_seal(
@@ -160,7 +160,7 @@ fn tell_sealed(sealed: Sealed, to: &mut usize) -> u32
         }
         Sealed::Short(length) => {
             *to = length;
-            ROOM
+            BUFFER
         }
         Sealed::UsedUp => COUNTERS,
     }

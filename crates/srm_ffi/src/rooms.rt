@@ -8,7 +8,7 @@ ghost use Rattle.srm_ffi.specs.declared.codes.TheConstants.{MEMBER};
 ghost use Rattle.srm_ffi.specs.Codes.{refusal_kind};
 ghost use Rattle.srm_ffi.specs.Joins.{AddressCall, ConfigCall, FindCall, NameCall, NumberCall, ReadCall, Refuses, TellsConfig, TellsFault, TellsMember, TellsText, linger_of, member_count, most_missing_of};
 
-use crate::codes::{DONE, EMPTY, FAULT, FULL, MEMBER, ROOM, of_fault, refusal_kind};
+use crate::codes::{DONE, EMPTY, FAULT, FULL, MEMBER, BUFFER, of_fault, refusal_kind};
 use crate::shapes::{RawConfig, RawRoomFault};
 use srm_agent::AgentFault;
 use srm_join::{Refusal, RoomHandle, address_at, config_in, explain, lay_start, name_at, read_text};
@@ -173,7 +173,7 @@ fn tell_member(member: Option<Member>, to: &mut u32) -> u32
 
 /// Copies the name of the member with this place to the front of a buffer, and writes its length.
 ///
-/// Returns `DONE` or the first of these that holds: `EMPTY`; `MEMBER` if the room has no such member; `ROOM` if the name doesn't fit, and then its length is written too.
+/// Returns `DONE` or the first of these that holds: `EMPTY`; `MEMBER` if the room has no such member; `BUFFER` if the name doesn't fit, and then its length is written too.
 #[unsafe(no_mangle)]
 pub extern "C" fn srm_raw_room_name(
     alloc: Global,
@@ -237,7 +237,7 @@ fn tell_text(text: Option<&str>, buffer: &mut [u8], to: &mut usize) -> u32
     if bytes.len() <= buffer.len() {
         DONE
     } else {
-        ROOM
+        BUFFER
     }
 }
 

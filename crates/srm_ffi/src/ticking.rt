@@ -6,7 +6,7 @@ ghost use Rattle.srm_ffi.specs.declared.codes.TheConstants.{MOMENT};
 ghost use Rattle.srm_ffi.specs.Shapes.{raw_ticked};
 ghost use Rattle.srm_ffi.specs.Calls.{DatagramCall, IsRefused, RepairCall, RequestCall, TellsHandover, TellsName, TickCall, written};
 
-use crate::codes::{DONE, EMPTY, MOMENT, NOTHING, ROOM, of_answer};
+use crate::codes::{DONE, EMPTY, MOMENT, NOTHING, BUFFER, of_answer};
 use crate::shapes::{RawName, RawTicked};
 use srm_agent::AgentFault;
 use srm_names::{LATEST_MOMENT, Name};
@@ -91,7 +91,7 @@ fn tell_name(name: Option<Name>, to: &mut RawName) -> u32
 
 /// Takes the next datagram that the last tick left to be sent, copies it to the front of the room and writes its length.
 ///
-/// Returns `DONE` or the first of these that holds: `EMPTY`; `NOTHING` if there is no more; `ROOM` if it doesn't fit. Then it stays the next, the
+/// Returns `DONE` or the first of these that holds: `EMPTY`; `NOTHING` if there is no more; `BUFFER` if it doesn't fit. Then it stays the next, the
 /// room is as it was, and its length is written.
 #[unsafe(no_mangle)]
 pub extern "C" fn srm_raw_datagram(
@@ -117,7 +117,7 @@ fn tell_handover(handover: Handover, to: &mut usize) -> u32
         Handover::Nothing => NOTHING,
         Handover::Short(length) => {
             *to = length;
-            ROOM
+            BUFFER
         }
         Handover::Copied(length) => {
             *to = length;

@@ -111,12 +111,12 @@ impl Agent {
     /// Takes the next datagram that the last tick left, copies it to the front of a room, and returns its length; `None` where there is none.
     ///
     /// # Errors
-    /// [`Error::Room`] where it doesn't fit: it stays the next. [`DATAGRAM_MAX`](crate::DATAGRAM_MAX) bytes always do.
+    /// [`Error::Buffer`] where it doesn't fit: it stays the next. [`DATAGRAM_MAX`](crate::DATAGRAM_MAX) bytes always do.
     pub fn next_datagram(&mut self, room: &mut [u8]) -> Result<Option<usize>, Error> {
         match self.handle.next_datagram(room) {
             (sys::OK, length) => Ok(Some(length)),
             (sys::NOTHING, _) => Ok(None),
-            (sys::ROOM, length) => Err(Error::Room(length)),
+            (sys::BUFFER, length) => Err(Error::Buffer(length)),
             (code, _) => Err(Error::of(code)),
         }
     }
@@ -228,7 +228,7 @@ impl Iterator for Datagrams<'_> {
 
     fn next(&mut self) -> Option<Vec<u8>> {
         let (code, length) = self.agent.handle.next_datagram(&mut []);
-        (code == sys::ROOM).then(|| {
+        (code == sys::BUFFER).then(|| {
             let mut datagram = vec![0; length];
             self.agent.handle.next_datagram(&mut datagram);
             datagram

@@ -26,8 +26,8 @@ pub enum Error {
     Slot,
     /// A setting is out of its range, or `me` isn't below `members`.
     Config,
-    /// The room is too short for the next datagram, which has so many bytes and stays the next.
-    Room(usize),
+    /// The buffer is too short for what it is to have, which has so many bytes: a datagram stays the next.
+    Buffer(usize),
     /// The page's creator is past 31.
     Page,
     /// A member is past 31.
@@ -66,7 +66,7 @@ impl Error {
             Error::Moment => 17,
             Error::Slot => 18,
             Error::Config => 19,
-            Error::Room(_) => sys::ROOM,
+            Error::Buffer(_) => sys::BUFFER,
             Error::Page => 22,
             Error::Member => 26,
             Error::Other(code) => code,

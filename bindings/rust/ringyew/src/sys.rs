@@ -21,7 +21,7 @@ pub const MOMENT_MAX: u64 = 281_474_976_710_656;
 pub const NEVER: u64 = u64::MAX;
 
 pub const OK: c_int = 0;
-pub const ROOM: c_int = 20;
+pub const BUFFER: c_int = 20;
 pub const NOTHING: c_int = 23;
 
 #[repr(C)]

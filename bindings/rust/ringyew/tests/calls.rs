@@ -61,7 +61,7 @@ fn a_room_that_is_too_short_loses_nothing() {
     agent.draw(Page::FIRST, b"a line", 0).unwrap();
     agent.tick(0).unwrap();
     let mut room = [0; DATAGRAM_MAX];
-    assert_eq!(agent.next_datagram(&mut room[..5]), Err(Error::Room(33)));
+    assert_eq!(agent.next_datagram(&mut room[..5]), Err(Error::Buffer(33)));
     assert_eq!(agent.next_datagram(&mut room), Ok(Some(33)));
     assert!(room[..33].ends_with(b"a line"));
     assert_eq!(agent.next_datagram(&mut room), Ok(None));
@@ -172,7 +172,7 @@ fn errors_tell_their_code_and_cause() {
         (Error::Leaving, 1, "the member is leaving"),
         (Error::BodyLong, 5, "the body is too long"),
         (Error::Memory, 6, "out of memory"),
-        (Error::Room(33), 20, "the room is too short"),
+        (Error::Buffer(33), 20, "the buffer is too short"),
         (Error::Member, 26, "a member is past 31"),
         (Error::Other(99), 99, "an unknown code"),
     ] {
