@@ -1,34 +1,36 @@
-/* A member over UDP: it draws each line of its input on the first page, and prints what it is given, as `srm node` does.
+/* A member over UDP: it joins a room, draws each line of its input on the first page, and prints what it is given, as `srm node` does.
  *
  *     cc node.c $(pkg-config --cflags --libs srm) -o node
- *     ./node SESSION ME STAY ADDRESS:PORT..     each member's address in order, its own too
+ *     ./node --room FILE --me NAME     the name, or the place from 0
  *
- * It stays for STAY seconds after its input ended, so that others get what they miss, and then leaves. Whoever reaches its socket can make
- * it hold and ask for anything: docs/EMBEDDING.md says what to put in front of it on an open network. */
-#include <arpa/inet.h>
+ * Once its input ended it stays until nobody asked for anything for as long as the room says, and then leaves. */
 #include <err.h>
-#include <errno.h>
+#include <netdb.h>
 #include <poll.h>
 #include <srm.h>
 #include <stdio.h>
 #include <stdlib.h>
 #include <string.h>
+#include <sys/socket.h>
 #include <time.h>
 #include <unistd.h>
 
 static srm_config config;
 static srm_agent *agent;
-static struct sockaddr_in members[SRM_MEMBERS_MAX];
+static srm_guard *guard;
+static struct { struct sockaddr_storage at; socklen_t size; } members[SRM_MEMBERS_MAX];
 static int udp;
+static uint64_t asked; /* when somebody last asked for something, or got it */
 static char line[SRM_BODY_MAX + 1]; /* input that is not drawn yet: a byte more than the longest line, so that a longer one is seen */
-static size_t have;
+static size_t have;                 /* how much of it there is */
 
-static uint64_t now(void)
+static uint64_t micros(clockid_t clock)
 {
     struct timespec t;
-    clock_gettime(CLOCK_MONOTONIC, &t);
+    clock_gettime(clock, &t);
     return (uint64_t)t.tv_sec * 1000000 + (uint64_t)t.tv_nsec / 1000;
 }
+static uint64_t now(void) { return micros(CLOCK_MONOTONIC); }
 
 static void check(int code, const char *what)
 {
@@ -38,18 +40,22 @@ static void check(int code, const char *what)
 
 static void send_all(void)
 {
-    uint8_t room[SRM_DATAGRAM_MAX];
-    for (size_t length; srm_agent_next_datagram(agent, room, sizeof room, &length) == SRM_OK;)
+    uint8_t datagram[SRM_DATAGRAM_MAX], sealed[SRM_SEALED_MAX];
+    for (size_t length, size; srm_agent_next_datagram(agent, datagram, sizeof datagram, &length) == SRM_OK;)
         for (unsigned to = 0; to < config.members; to++)
-            if (to != config.me) /* what is lost, here too, is asked for again */
-                (void)!sendto(udp, room, length, MSG_DONTWAIT, (struct sockaddr *)&members[to], sizeof members[to]);
+            if (to != config.me && srm_guard_seal(guard, to, datagram, length, sealed, sizeof sealed, &size) == SRM_OK)
+                (void)!sendto(udp, sealed, size, MSG_DONTWAIT, (struct sockaddr *)&members[to].at, members[to].size); /* what is lost, here too, is asked for again */
 }
 
 static void receive_all(void)
 {
-    uint8_t room[SRM_DATAGRAM_MAX + 1]; /* what is longer than the longest is no datagram */
-    for (ssize_t length; (length = recv(udp, room, sizeof room, MSG_DONTWAIT)) >= 0;)
-        (void)!srm_agent_hear(agent, room, (size_t)length, now(), NULL); /* out of memory: it counts as lost */
+    uint8_t came[SRM_SEALED_MAX + 1]; /* what is longer than the longest is no datagram */
+    for (ssize_t length; (length = recv(udp, came, sizeof came, MSG_DONTWAIT)) >= 0;) {
+        srm_heard heard;
+        size_t opened; /* without the key, or for the second time: dropped; out of memory: it counts as lost */
+        if (srm_guard_open(guard, came, (size_t)length, &opened) == SRM_OK && srm_agent_hear(agent, came, opened, now(), &heard) == SRM_OK && heard.timers)
+            asked = now();
+    }
 }
 
 static void print_given(void)
@@ -61,7 +67,7 @@ static void print_given(void)
             case SRM_MESSAGE_OPEN: printf("open %u.%u\n", m.name.page.creator, m.name.page.number); break;
             case SRM_MESSAGE_DRAW: printf("draw %u %u %.*s\n", m.name.source, m.name.number, (int)m.length, (char *)m.body); break;
             case SRM_MESSAGE_LEFT: printf("left %u\n", m.name.source); break;
-            case SRM_MESSAGE_CLOSE: printf("close\n"); break;
+            case SRM_MESSAGE_CLOSE: puts("close"); break;
             }
         }
     fflush(stdout);
@@ -70,14 +76,14 @@ static void print_given(void)
 /* Waits for a datagram, the agent's next moment, `wake`, or input if it is wanted, and does what is then to be done. True where input came. */
 static bool turn(uint64_t wake, bool reads)
 {
-    uint64_t due = srm_agent_next_due(agent), moment = now();
-    wake = due < wake ? due : wake;
-    uint64_t wait = wake <= moment ? 0 : wake - moment;
+    uint64_t due = srm_agent_next_due(agent), first = due < wake ? due : wake, moment = now(), wait = first <= moment ? 0 : first - moment;
     struct pollfd at[2] = {{udp, POLLIN, 0}, {reads ? STDIN_FILENO : -1, POLLIN, 0}};
     poll(at, 2, wait > 60000000 ? 60000 : (int)((wait + 999) / 1000));
     receive_all();
-    if (srm_agent_tick(agent, now(), NULL) == SRM_OK) /* out of memory: it stays due */
-        send_all();
+    srm_ticked ticked = {0};
+    if (srm_agent_tick(agent, now(), &ticked) == SRM_OK && ticked.repairs) /* out of memory: it stays due */
+        asked = now();
+    send_all();
     print_given();
     return at[1].revents;
 }
@@ -91,6 +97,7 @@ static uint64_t draw_lines(void)
             return srm_agent_admits_from(agent, length);
         check(srm_agent_draw(agent, SRM_FIRST_PAGE, line, length, now(), NULL), "draw");
         have -= length + 1;
+        asked = now();
     }
     if (have == sizeof line)
         errx(1, "a line has more than %d bytes", SRM_BODY_MAX);
@@ -108,76 +115,86 @@ static bool read_lines(void)
     return length > 0;
 }
 
-/* Ends the program, where its arguments are wrong. */
-static void refuse(const char *what, const char *why)
+static srm_room *read_room(const char *path)
 {
-    fprintf(stderr, "node: %s: %s\nusage: node SESSION ME STAY ADDRESS:PORT..\n", what, why);
-    exit(2);
+    static char text[SRM_ROOM_TEXT_MAX + 1];
+    FILE *file = fopen(path, "r");
+    size_t length = file ? fread(text, 1, sizeof text, file) : 0;
+    if (!file || ferror(file) || fclose(file))
+        err(1, "cannot read room %s", path);
+    srm_room *room;
+    srm_room_fault fault = {0};
+    int code = srm_room_read(&room, text, length, &fault);
+    if (fault.line)
+        errx(1, "room %s, line %zu: %s", path, fault.line, fault.text);
+    check(code, code == SRM_ERROR_FAULT ? fault.text : path);
+    return room;
 }
 
-/* The number that an argument is: digits alone, and at most so many. */
-static uint32_t number(const char *text, uint32_t most, const char *why)
+/* Finds the member's place; where there is none, tells whom the room has. */
+static unsigned find(srm_room *room, const char *path, const char *me)
 {
-    char *end;
-    errno = 0;
-    unsigned long long value = strtoull(text, &end, 10);
-    if (*text < '0' || *text > '9' || *end || errno || value > most)
-        refuse(text, why);
-    return (uint32_t)value;
+    char name[SRM_NAME_MAX + 1];
+    unsigned place;
+    size_t length;
+    if (srm_room_find(room, me, &place) == SRM_OK)
+        return place;
+    fprintf(stderr, "node: room %s has no member %s: write --me with one of", path, me);
+    for (place = 0; srm_room_name(room, place, name, sizeof name, &length) == SRM_OK; place++)
+        fprintf(stderr, " %s%s", name, place + 1 < srm_room_members(room) ? "" : "\n");
+    exit(1);
 }
 
-static void read_address(struct sockaddr_in *to, const char *text)
+/* Resolves a member's address, once. All are to be of one kind. */
+static void resolve(srm_room *room, unsigned place)
 {
-    const char *port = strchr(text, ':');
-    char host[INET_ADDRSTRLEN] = "";
-    if (port && (size_t)(port - text) < sizeof host)
-        memcpy(host, text, (size_t)(port - text));
-    if (inet_pton(AF_INET, host, &to->sin_addr) != 1)
-        refuse(text, "no IPv4 address and port");
-    to->sin_family = AF_INET;
-    to->sin_port = htons((uint16_t)number(port + 1, UINT16_MAX, "no port from 1 to 65535"));
-    if (to->sin_port == 0)
-        refuse(text, "no port from 1 to 65535");
+    char text[NI_MAXHOST + NI_MAXSERV], *host = text;
+    size_t length;
+    check(srm_room_address(room, place, text, sizeof text, &length), "a member's address");
+    char *port = strrchr(text, ':');
+    *port++ = 0;
+    if (*host == '[') /* as of IPv6 */
+        host++, port[-2] = 0;
+    struct addrinfo *found, hints = {.ai_family = place ? members[0].at.ss_family : AF_UNSPEC, .ai_socktype = SOCK_DGRAM, .ai_flags = AI_NUMERICSERV};
+    int why = getaddrinfo(host, port, &hints, &found);
+    if (why)
+        errx(1, "cannot find %s: %s: give all members an address of the same kind", host, gai_strerror(why));
+    memcpy(&members[place].at, found->ai_addr, members[place].size = found->ai_addrlen);
+    freeaddrinfo(found);
 }
 
-/* Returns for how many seconds the member stays. */
-static uint32_t read_arguments(int argc, char **argv)
+/* Joins the room. Returns for how long the member stays for others. */
+static uint64_t join(const char *path, const char *me)
 {
-    if (argc < 5)
-        refuse("arguments", "too few");
-    if (argc - 4 > SRM_MEMBERS_MAX)
-        refuse(argv[4 + SRM_MEMBERS_MAX], "one address too many: a session has 32 members at most");
+    srm_room *room = read_room(path);
     srm_config_default(&config);
-    config.session = number(argv[1], UINT32_MAX, "no session from 0 to 4294967295");
-    config.members = (uint8_t)(argc - 4);
-    config.me = (uint8_t)number(argv[2], config.members - 1U, "no place in the list of addresses, from 0");
-    config.least_distance = 5000; /* members on one machine are so near that they would ask each millisecond */
-    for (unsigned member = 0; member < config.members; member++)
-        read_address(&members[member], argv[4 + member]);
-    return number(argv[3], UINT32_MAX, "no seconds from 0 to 4294967295");
-}
-
-static void join(void)
-{
-    check(srm_agent_new(&agent, &config, now() ^ (uint64_t)getpid() << 32, now()), "join");
-    udp = socket(AF_INET, SOCK_DGRAM, 0);
-    if (udp < 0 || bind(udp, (struct sockaddr *)&members[config.me], sizeof members[config.me]))
+    check(srm_room_config(room, find(room, path, me), &config), "settings");
+    for (unsigned place = 0; place < config.members; place++)
+        resolve(room, place);
+    udp = socket(members[0].at.ss_family, SOCK_DGRAM, 0);
+    if (udp < 0 || bind(udp, (struct sockaddr *)&members[config.me].at, members[config.me].size))
         err(1, "bind");
+    check(srm_room_guard(&guard, room, config.me, micros(CLOCK_REALTIME)), "guard");
+    check(srm_agent_new(&agent, &config, now() ^ (uint64_t)getpid() << 32, now()), "join");
+    uint64_t linger = srm_room_linger(room);
+    srm_room_free(room);
+    return linger;
 }
 
 int main(int argc, char **argv)
 {
-    uint64_t stay = read_arguments(argc, argv) * UINT64_C(1000000);
-    join();
-    uint64_t leaves = SRM_NEVER; /* when it leaves, once its input ended */
-    while (have || now() < leaves) {
+    if (argc != 5 || strcmp(argv[1], "--room") || strcmp(argv[3], "--me"))
+        return fputs("node: name a room and a member of it\nusage: node --room FILE --me NAME\n", stderr), 2;
+    uint64_t linger = join(argv[2], argv[4]);
+    for (bool ended = false; !ended || have || now() < asked + linger;) {
         uint64_t draws = draw_lines();
-        if (turn(have ? draws : leaves, leaves == SRM_NEVER && have < sizeof line) && !read_lines())
-            leaves = now() + stay;
+        if (turn(have ? draws : ended ? asked + linger : SRM_NEVER, !ended && have < sizeof line) && !read_lines())
+            ended = true, asked = now();
     }
     check(srm_agent_leave(agent, now()), "leave");
     while (srm_agent_state(agent) != SRM_GONE)
         turn(SRM_NEVER, false);
     printf("gone %u\n", config.me);
     srm_agent_free(agent);
+    srm_guard_free(guard);
 }

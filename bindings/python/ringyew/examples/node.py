@@ -1,22 +1,20 @@
-"""A member over UDP: it draws each line of its input on the first page, and prints what it is given, as `srm node` does.
+"""A member over UDP, by asyncio: it joins a room, draws each line of its input on the first page, and prints what it is given, as `srm node` does.
 
-    python3 node.py SESSION ME STAY ADDRESS:PORT..     each member's address in order, its own too
+    python3 node.py --room FILE --me NAME     the name, or the place from 0
 
-It stays for STAY seconds after its input ended, so that others get what they miss, and then leaves. docs/EMBEDDING.md says what to put in front of it
-on an open network."""
+Once its input ended it stays until nobody asked for anything for as long as the room says, and then leaves."""
 
+import asyncio
 import contextlib
-import ipaddress
 import os
-import re
-import select
+import pathlib
 import socket
 import sys
 import time
-from collections import deque
-from typing import NamedTuple
 
-from ringyew import BODY_MAX, DATAGRAM_MAX, FIRST_PAGE, MEMBERS_MAX, SLOTS, Agent, Draw, Left, Message, Open, State
+from ringyew import BODY_MAX, FIRST_PAGE, SLOTS, Agent, Draw, DroppedError, FaultError, Guard, Left, MemberError, Message, Open, Room, State
+
+USAGE = "usage: node.py --room FILE --me NAME"
 
 
 def now() -> int:
@@ -33,120 +31,128 @@ def told(message: Message) -> str:
     return f"left {message.source}" if isinstance(message, Left) else "close"
 
 
-class Input:
-    """Lines of standard input, a few at a time."""
+class Member(asyncio.DatagramProtocol):
+    """An agent over a socket. Its one timer is set anew after each call."""
 
-    def __init__(self) -> None:
-        self.lines: deque[bytes] = deque()
-        self.rest = b""
-        self.is_open = True
+    udp: asyncio.DatagramTransport
+    timer: asyncio.TimerHandle | None = None
 
-    def wants_more(self) -> bool:
-        return self.is_open and not self.lines
+    def __init__(self, agent: Agent, guard: Guard, me: int, others: dict[int, tuple[str, int]]) -> None:
+        self.agent, self.guard, self.me, self.others = agent, guard, me, others
+        self.asked = now()  # when somebody last asked for something, or got it
+        self.gone = asyncio.Event()
 
-    def read(self) -> None:
-        came = os.read(0, 4096)
-        self.is_open = came != b""
-        *lines, self.rest = (self.rest + (came or b"\n" * (self.rest != b""))).split(b"\n")
-        self.lines.extend(lines)
-        if max(map(len, (self.rest, *lines))) > BODY_MAX:
-            sys.exit(f"a line has more than {BODY_MAX} bytes")
+    def connection_made(self, transport: asyncio.BaseTransport) -> None:
+        assert isinstance(transport, asyncio.DatagramTransport)
+        self.udp = transport
+        self.turn()
+
+    def datagram_received(self, data: bytes, addr: object) -> None:
+        with contextlib.suppress(DroppedError):  # without the key, or for the second time
+            if self.agent.hear(self.guard.open(data), now()).timers:
+                self.asked = now()
+        self.turn()
+
+    def turn(self) -> None:
+        """Does what is due, sends and prints, and sets the timer."""
+        if self.agent.tick(now()).repairs:
+            self.asked = now()
+        for datagram in self.agent.datagrams():
+            for to, address in self.others.items():
+                self.udp.sendto(self.guard.seal(to, datagram), address)  # what is lost, here too, is asked for again
+        for slot in range(SLOTS):
+            for message in self.agent.messages(slot):
+                print("took", self.me, slot, told(message), flush=True)
+        if self.timer:
+            self.timer.cancel()
+        if (due := self.agent.next_due) is not None:
+            self.timer = asyncio.get_running_loop().call_later(max(due - now(), 0) / 1_000_000, self.turn)
+        else:
+            self.gone.set()
+
+    async def draw(self, line: bytes) -> None:
+        """Draws a line once the rate lets it go."""
+        while not self.agent.admits(len(line), now()):
+            first = self.agent.admits_from(len(line)) or self.agent.next_due or now()
+            await asyncio.sleep(max(first - now(), 1000) / 1_000_000)
+        self.agent.draw(line, now(), FIRST_PAGE)
+        self.asked = now()
+        self.turn()
+
+    async def leave(self, linger: int) -> None:
+        """Stays until nobody asked for anything for so many microseconds, and then leaves."""
+        self.asked = now()
+        while (left := self.asked + linger - now()) > 0:
+            await asyncio.sleep(left / 1_000_000)
+        self.agent.leave(now())
+        self.turn()
+        await self.gone.wait()
+        assert self.agent.state is State.GONE
 
 
-def turn(agent: Agent, udp: socket.socket, others: list[tuple[str, int]], lines: Input, wake: int | None) -> None:
-    """Waits for a datagram, a line or the next moment, and does what is then to be done."""
-    wakes = [moment for moment in (wake, agent.next_due) if moment is not None]
-    wait = max(min(wakes) - now(), 0) / 1_000_000 if wakes else None
-    ready = select.select([udp, 0] if lines.wants_more() else [udp], [], [], wait)[0]
-    if 0 in ready:
-        lines.read()
-    while lines.lines and agent.admits(len(lines.lines[0]), now()):
-        agent.draw(lines.lines.popleft(), now(), FIRST_PAGE)
-    with contextlib.suppress(OSError):  # nothing more came
-        while True:
-            agent.hear(udp.recv(DATAGRAM_MAX + 1), now())
-    agent.tick(now())
-    for datagram in agent.datagrams():
-        for other in others:
-            with contextlib.suppress(OSError):  # what is lost, here too, is asked for again
-                udp.sendto(datagram, other)
-
-
-class Arguments(NamedTuple):
-    """What the arguments say."""
-
-    session: int
-    me: int
-    stay: int
-    addresses: list[tuple[str, int]]
-
-
-class WrongArgumentError(Exception):
-    """What is wrong with the arguments."""
-
-
-def number(word: str, most: int, why: str) -> int:
-    if not re.fullmatch("[0-9]{1,10}", word) or int(word) > most:
-        raise WrongArgumentError(f"{word}: {why}")
-    return int(word)
-
-
-def address(word: str) -> tuple[str, int]:
-    host, _, port = word.rpartition(":")
+async def resolved(address: str, family: int) -> tuple[int, tuple[str, int]]:
+    """An address of a room, with its family: that of the members before, if there are any."""
+    host, _, port = address.rpartition(":")
     try:
-        ipaddress.IPv4Address(host)
-    except ValueError:
-        raise WrongArgumentError(f"{word}: no IPv4 address and port") from None
-    if number(port, 65535, "no port from 1 to 65535") == 0:
-        raise WrongArgumentError(f"{word}: no port from 1 to 65535")
-    return host, int(port)
+        found = await asyncio.get_running_loop().getaddrinfo(host.strip("[]"), int(port), family=family, type=socket.SOCK_DGRAM)
+    except socket.gaierror as why:
+        sys.exit(f"node.py: cannot find {host}: {why.strerror}: give all members an address of the same kind")
+    return found[0][0], (str(found[0][4][0]), int(found[0][4][1]))
 
 
-def read(words: list[str]) -> Arguments:
-    """Reads the arguments, or raises what is wrong with them."""
-    if len(words) < 4:
-        raise WrongArgumentError("arguments: too few")
-    session, me, stay, *places = words
-    if len(places) > MEMBERS_MAX:
-        raise WrongArgumentError(f"{places[MEMBERS_MAX]}: one address too many: a session has {MEMBERS_MAX} members at most")
-    return Arguments(
-        session=number(session, 2**32 - 1, "no session from 0 to 4294967295"),
-        me=number(me, len(places) - 1, "no place in the list of addresses, from 0"),
-        stay=number(stay, 2**32 - 1, "no seconds from 0 to 4294967295"),
-        addresses=[address(place) for place in places],
-    )
+async def addresses_of(room: Room) -> list[tuple[str, int]]:
+    """The addresses of a room's members, each resolved once."""
+    family, addresses = 0, []
+    for member in room.members:
+        family, address = await resolved(member.address, family)
+        addresses.append(address)
+    return addresses
 
 
-def main(arguments: Arguments) -> None:
-    session, me, stay, addresses = arguments
-    members = len(addresses)
-    own = addresses.pop(me)
+async def run(room: Room, me: int) -> None:
+    others = dict(enumerate(await addresses_of(room)))
+    own = others.pop(me)
     seed = int.from_bytes(os.urandom(8))
-    lines, leaves = Input(), None
-    # Members on one machine are so near that they would ask each millisecond, hence the floor.
-    with (
-        socket.socket(socket.AF_INET, socket.SOCK_DGRAM) as udp,
-        Agent(me=me, members=members, session=session, seed=seed, now=now(), least_distance=5000) as agent,
-    ):
-        udp.bind(own)
-        udp.setblocking(False)
-        while agent.state is not State.GONE:
-            if not lines.is_open and leaves is None:
-                leaves = now() + stay * 1_000_000
-            if leaves is not None and not lines.lines and now() >= leaves and agent.state is State.ACTIVE:
-                agent.leave(now())
-            wake = agent.admits_from(len(lines.lines[0])) if lines.lines else leaves
-            turn(agent, udp, addresses, lines, wake if agent.state is State.ACTIVE else None)
-            for slot in range(SLOTS):
-                for message in agent.messages(slot):
-                    print("took", me, slot, told(message), flush=True)
+    with room.guard(me, start=time.time_ns() // 1000) as guard, Agent(**room.settings(me), seed=seed, now=now()) as agent:
+        member = Member(agent, guard, me, others)
+        udp, _ = await asyncio.get_running_loop().create_datagram_endpoint(lambda: member, local_addr=own)
+        while line := await asyncio.to_thread(sys.stdin.buffer.readline, BODY_MAX + 2):
+            body = line.removesuffix(b"\n")
+            if len(body) > BODY_MAX:
+                sys.exit(f"a line has more than {BODY_MAX} bytes")
+            await member.draw(body)
+        await member.leave(room.linger)
+        udp.close()
     print("gone", me)
 
 
-if __name__ == "__main__":
+def read(path: str) -> Room:
+    """The room of a file, or the end of the program."""
     try:
-        wanted = read(sys.argv[1:])
-    except WrongArgumentError as why:
-        print(f"node.py: {why}", "usage: node.py SESSION ME STAY ADDRESS:PORT..", sep="\n", file=sys.stderr)
-        sys.exit(2)
-    main(wanted)
+        return Room(pathlib.Path(path).read_bytes())
+    except OSError as why:
+        sys.exit(f"node.py: cannot read room {path}: {why.strerror}")
+    except FaultError as why:
+        sys.exit(f"node.py: room {path}{f', line {why.line}' if why.line else ''}: {why}")
+
+
+def find(room: Room, path: str, me: str) -> int:
+    """A member's place, or the end of the program."""
+    try:
+        return room.find(me)
+    except MemberError:
+        sys.exit(f"node.py: room {path} has no member {me}: write --me with one of {' '.join(member.name for member in room.members)}")
+
+
+def main(words: list[str]) -> int:
+    match words:
+        case ["--room", path, "--me", me]:
+            with read(path) as room:
+                asyncio.run(run(room, find(room, path, me)))
+            return 0
+    print("node.py: name a room and a member of it", USAGE, sep="\n", file=sys.stderr)
+    return 2
+
+
+if __name__ == "__main__":
+    sys.exit(main(sys.argv[1:]))

@@ -1,15 +1,15 @@
-//! A member over UDP: it draws each line of its input on the first page, and prints what it is given, as `srm node` does.
+//! A member over UDP: it joins a room, draws each line of its input on the first page, and prints what it is given, as `srm node` does.
 //!
-//!     cargo run --example node -- SESSION ME STAY ADDRESS:PORT..     each member's address in order, its own too
+//!     cargo run --example node -- --room FILE --me NAME     the name, or the place from 0
 //!
-//! It stays for STAY seconds after its input ended, so that others get what they miss, and then leaves. docs/EMBEDDING.md says what to put in front of it
-//! on an open network.
+//! Once its input ended it stays until nobody asked for anything for as long as the room says, and then leaves.
 
-use ringyew::{Agent, Config, DATAGRAM_MAX, MEMBERS_MAX, Message, Page, SLOTS, State};
+use ringyew::{Agent, Guard, Message, Page, Room, RoomError, SEALED_MAX, SLOTS, State};
 use std::env::args_os;
 use std::error::Error;
+use std::fs;
 use std::io::{BufRead, stdin};
-use std::net::{SocketAddr, UdpSocket};
+use std::net::{SocketAddr, ToSocketAddrs, UdpSocket};
 use std::process::exit;
 use std::sync::mpsc::{Receiver, SyncSender, channel, sync_channel};
 use std::thread;
@@ -38,10 +38,10 @@ fn read_lines(events: &SyncSender<Event>, drawn: &Receiver<()>) {
 }
 
 fn receive(udp: &UdpSocket, events: &SyncSender<Event>) {
-    let mut room = [0; DATAGRAM_MAX + 1]; // what is longer than the longest is no datagram
+    let mut buffer = [0; SEALED_MAX + 1]; // what is longer than the longest is no datagram
     loop {
-        let Ok(length) = udp.recv(&mut room) else { continue };
-        if events.send(Event::Datagram(room[..length].to_vec())).is_err() {
+        let Ok(length) = udp.recv(&mut buffer) else { continue };
+        if events.send(Event::Datagram(buffer[..length].to_vec())).is_err() {
             return;
         }
     }
@@ -61,60 +61,67 @@ fn print_given(agent: &mut Agent, me: u8) -> Result<(), ringyew::Error> {
     Ok(())
 }
 
-/// What the arguments say.
-struct Arguments {
-    session: u32,
-    me: u8,
-    stay: Duration,
-    addresses: Vec<SocketAddr>,
-    own: SocketAddr,
+/// Reads the room of a file, or says what is wrong with it.
+fn read(path: &str) -> Result<Room, String> {
+    let text = fs::read(path).map_err(|why| format!("cannot read room {path}: {why}"))?;
+    Room::read(&text).map_err(|why| match &why {
+        RoomError::Fault(fault) => match fault.line {
+            Some(line) => format!("room {path}, line {line}: {why}"),
+            None => format!("room {path}: {why}"),
+        },
+        RoomError::Memory => why.to_string(),
+    })
 }
 
-fn number(word: &str, most: u32, why: &str) -> Result<u32, String> {
-    let digits = word.bytes().all(|byte| byte.is_ascii_digit());
-    word.parse().ok().filter(|number| digits && *number <= most).ok_or_else(|| format!("{word}: {why}"))
+/// Finds a member's place, or tells whom the room has.
+fn find(room: &mut Room, path: &str, me: &str) -> Result<u8, String> {
+    room.find(me).ok_or_else(|| {
+        let names: Vec<String> = (0..room.members()).filter_map(|place| room.name(place).ok()).collect();
+        format!("room {path} has no member {me}: write --me with one of {}", names.join(" "))
+    })
 }
 
-fn address(word: &String) -> Result<SocketAddr, String> {
-    word.parse().ok().filter(|address: &SocketAddr| address.port() != 0).ok_or_else(|| format!("{word}: no IP address and port from 1 to 65535"))
-}
-
-/// Reads the arguments, or says what is wrong with them.
-fn read(words: &[String]) -> Result<Arguments, String> {
-    let [session, me, stay, places @ ..] = words else {
-        return Err("arguments: too few".into());
-    };
-    if let Some(place) = places.get(usize::from(MEMBERS_MAX)) {
-        return Err(format!("{place}: one address too many: a session has {MEMBERS_MAX} members at most"));
+/// Resolves the members' addresses, each once. All are to be of one kind.
+fn addresses(room: &mut Room) -> Result<Vec<SocketAddr>, Box<dyn Error>> {
+    let mut addresses: Vec<SocketAddr> = Vec::new();
+    for place in 0..room.members() {
+        let text = room.address(place)?;
+        let found = text.to_socket_addrs().map_err(|why| format!("cannot find {text}: {why}"))?;
+        let mut of_kind = found.filter(|address| addresses.first().is_none_or(|first| first.is_ipv4() == address.is_ipv4()));
+        let address = of_kind.next().ok_or_else(|| format!("cannot find {text}: give all members an address of the same kind"))?;
+        addresses.push(address);
     }
-    let addresses = places.iter().map(address).collect::<Result<Vec<_>, _>>()?;
-    let session = number(session, u32::MAX, "no session from 0 to 4294967295")?;
-    let place = number(me, u8::MAX.into(), "no place in the list of addresses, from 0")?;
-    let own = *addresses.get(place as usize).ok_or_else(|| format!("{me}: no place in the list of addresses, from 0"))?;
-    let stay = number(stay, u32::MAX, "no seconds from 0 to 4294967295")?;
-    Ok(Arguments { session, me: place as u8, stay: Duration::from_secs(stay.into()), addresses, own })
+    Ok(addresses)
 }
 
-fn main() -> Result<(), Box<dyn Error>> {
+fn main() {
     let words: Vec<String> = args_os().skip(1).map(|word| word.to_string_lossy().into_owned()).collect();
-    match read(&words) {
-        Ok(arguments) => run(arguments),
-        Err(why) => {
-            eprintln!("node: {why}\nusage: node SESSION ME STAY ADDRESS:PORT..");
-            exit(2)
-        }
+    let [room, path, me, name] = &words[..] else { refuse() };
+    if room != "--room" || me != "--me" {
+        refuse();
+    }
+    if let Err(why) = run(path, name) {
+        eprintln!("node: {why}");
+        exit(1);
     }
 }
 
-fn run(arguments: Arguments) -> Result<(), Box<dyn Error>> {
-    let Arguments { session, me, stay, addresses, own } = arguments;
-    // Members on one machine are so near that they would ask each millisecond, hence the floor.
-    let config = Config { least_distance: 5_000, ..Config::new(me, addresses.len() as u8, session) };
-    let begun = Instant::now();
-    let seed = SystemTime::UNIX_EPOCH.elapsed()?.as_nanos() as u64;
-    let mut agent = Agent::new(&config, seed ^ u64::from(me) << 56, now(begun))?;
+fn refuse() -> ! {
+    eprintln!("node: name a room and a member of it\nusage: node --room FILE --me NAME");
+    exit(2)
+}
 
-    let udp = UdpSocket::bind(own)?;
+fn run(path: &str, name: &str) -> Result<(), Box<dyn Error>> {
+    let mut room = read(path)?;
+    let me = find(&mut room, path, name)?;
+    let addresses = addresses(&mut room)?;
+    let begun = Instant::now();
+    let since_1970 = SystemTime::UNIX_EPOCH.elapsed()?;
+    let mut agent = Agent::new(&room.config(me)?, since_1970.as_nanos() as u64 ^ u64::from(me) << 56, now(begun))?;
+    let mut guard = room.guard(me, since_1970.as_micros() as u64)?;
+    let linger = room.linger().as_micros() as u64;
+
+    let udp = UdpSocket::bind(addresses[usize::from(me)])?;
     let (events, came) = sync_channel(256);
     let (draw_next, drawn) = channel();
     thread::spawn({
@@ -124,31 +131,49 @@ fn run(arguments: Arguments) -> Result<(), Box<dyn Error>> {
     let from = udp.try_clone()?;
     thread::spawn(move || receive(&from, &events));
 
-    let (mut line, mut leaves): (Option<Vec<u8>>, Option<u64>) = (None, None);
+    // When somebody last asked for something, or got it; and whether the input ended.
+    let (mut line, mut asked, mut ended): (Option<Vec<u8>>, u64, bool) = (None, now(begun), false);
     while agent.state() != State::Gone {
+        let leaves = (ended && agent.state() == State::Active).then_some(asked + linger);
         let wake = line.as_ref().map_or(leaves, |line| agent.admits_from(line.len()));
         let wait = [wake, agent.next_due()].into_iter().flatten().min().map_or(Duration::MAX, |moment| Duration::from_micros(moment.saturating_sub(now(begun))));
         match came.recv_timeout(wait.min(Duration::from_secs(60))) {
-            Ok(Event::Datagram(bytes)) => _ = agent.hear(&bytes, now(begun)), // out of memory: it counts as lost
+            Ok(Event::Datagram(bytes)) => {
+                // Without the key, or for the second time: dropped. Out of memory: it counts as lost.
+                let heard = guard.open(&bytes).and_then(|datagram| agent.hear(datagram, now(begun)));
+                if heard.is_ok_and(|heard| heard.timers > 0) {
+                    asked = now(begun);
+                }
+            }
             Ok(Event::Line(typed)) => line = Some(typed),
-            Ok(Event::End) => leaves = Some(now(begun) + stay.as_micros() as u64),
+            Ok(Event::End) => (ended, asked) = (true, now(begun)),
             Err(_) => {}
         }
         if let Some(typed) = line.take_if(|line| agent.admits(line.len(), now(begun))) {
             agent.draw(Page::FIRST, &typed, now(begun))?;
+            asked = now(begun);
             draw_next.send(())?;
         }
-        if leaves.take_if(|moment| *moment <= now(begun)).is_some() {
+        if ended && agent.state() == State::Active && asked + linger <= now(begun) {
             agent.leave(now(begun))?;
         }
-        agent.tick(now(begun))?;
-        for datagram in agent.datagrams() {
-            for to in addresses.iter().filter(|to| **to != own) {
-                let _ = udp.send_to(&datagram, to); // what is lost, here too, is asked for again
-            }
+        if agent.tick(now(begun))?.repairs > 0 {
+            asked = now(begun);
         }
+        send_all(&mut agent, &mut guard, &udp, &addresses, me);
         print_given(&mut agent, me)?;
     }
     println!("gone {me}");
     Ok(())
+}
+
+/// Sends what a tick left to all others, sealed for each.
+fn send_all(agent: &mut Agent, guard: &mut Guard, udp: &UdpSocket, addresses: &[SocketAddr], me: u8) {
+    for datagram in agent.datagrams() {
+        for (to, address) in (0..).zip(addresses).filter(|(to, _)| *to != me) {
+            if let Ok(sealed) = guard.seal(to, &datagram) {
+                let _ = udp.send_to(&sealed, address); // what is lost, here too, is asked for again
+            }
+        }
+    }
 }

@@ -108,12 +108,12 @@ impl Agent {
         Datagrams { agent: self }
     }
 
-    /// Takes the next datagram that the last tick left, copies it to the front of a room, and returns its length; `None` where there is none.
+    /// Takes the next datagram that the last tick left, copies it to the front of a buffer, and returns its length; `None` where there is none.
     ///
     /// # Errors
     /// [`Error::Buffer`] where it doesn't fit: it stays the next. [`DATAGRAM_MAX`](crate::DATAGRAM_MAX) bytes always do.
-    pub fn next_datagram(&mut self, room: &mut [u8]) -> Result<Option<usize>, Error> {
-        match self.handle.next_datagram(room) {
+    pub fn next_datagram(&mut self, buffer: &mut [u8]) -> Result<Option<usize>, Error> {
+        match self.handle.next_datagram(buffer) {
             (sys::OK, length) => Ok(Some(length)),
             (sys::NOTHING, _) => Ok(None),
             (sys::BUFFER, length) => Err(Error::Buffer(length)),

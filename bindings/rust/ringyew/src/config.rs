@@ -38,7 +38,11 @@ pub struct Config {
 impl Config {
     /// The settings of member `me` of so many, with the defaults for the rest. [`Agent::new`](crate::Agent::new) says whether they are in range.
     pub fn new(me: u8, members: u8, session: u32) -> Config {
-        let sys::Config { rate, depth, c1, c2, d1, d2, least_distance, .. } = sys::defaults();
+        Config { me, members, session, ..Config::of(sys::defaults()) }
+    }
+
+    pub(crate) fn of(raw: sys::Config) -> Config {
+        let sys::Config { size: _, session, rate, depth, me, members, c1, c2, d1, d2, least_distance } = raw;
         Config { me, members, session, rate, depth, c1, c2, d1, d2, least_distance }
     }
 

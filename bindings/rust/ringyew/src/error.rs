@@ -4,7 +4,7 @@
 use crate::sys;
 use std::fmt;
 
-/// Why a call is refused. The agent, and what it has to be sent and given, are then as before.
+/// Why a call is refused. The agent, and what it has to be sent and given, or the room or the guard are then as before.
 #[derive(Clone, Copy, Debug, PartialEq, Eq, Hash)]
 #[non_exhaustive]
 pub enum Error {
@@ -30,8 +30,18 @@ pub enum Error {
     Buffer(usize),
     /// The page's creator is past 31.
     Page,
-    /// A member is past 31.
+    /// A member is past 31, or the room has no such member.
     Member,
+    /// The key has fewer than [`KEY_MIN`](crate::KEY_MIN) bytes, or more than [`KEY_MAX`](crate::KEY_MAX).
+    Key,
+    /// Nobody with the key sealed the bytes for this member.
+    Untagged,
+    /// Nobody did, but an older version tagged them by this key.
+    Older,
+    /// The bytes came before, or so late that this can't be told.
+    Again,
+    /// All counters to the member were used.
+    Counters,
     /// A code that this version doesn't know.
     Other(i32),
 }
@@ -50,6 +60,11 @@ impl Error {
             19 => Error::Config,
             22 => Error::Page,
             26 => Error::Member,
+            28 => Error::Key,
+            29 => Error::Untagged,
+            30 => Error::Older,
+            31 => Error::Again,
+            32 => Error::Counters,
             other => Error::Other(other),
         }
     }
@@ -69,6 +84,11 @@ impl Error {
             Error::Buffer(_) => sys::BUFFER,
             Error::Page => 22,
             Error::Member => 26,
+            Error::Key => 28,
+            Error::Untagged => 29,
+            Error::Older => 30,
+            Error::Again => 31,
+            Error::Counters => 32,
             Error::Other(code) => code,
         }
     }

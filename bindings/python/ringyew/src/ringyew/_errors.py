@@ -1,6 +1,7 @@
 """Why a call is refused."""
 
 from ringyew._library import OK, describe
+from ringyew._values import RoomFault
 
 
 class SrmError(Exception):
@@ -52,7 +53,41 @@ class PageError(SrmError):
 
 
 class MemberError(SrmError):
-    """A member isn't one of 0 to 31."""
+    """A member isn't one of 0 to 31, or the room has no such member."""
+
+
+class KeyRefusedError(SrmError):
+    """The key has fewer than KEY_MIN bytes, or more than KEY_MAX."""
+
+
+class CountersError(SrmError):
+    """All counters to the member were used."""
+
+
+class DroppedError(SrmError):
+    """What came isn't to be heard, and counts as lost."""
+
+
+class UntaggedError(DroppedError):
+    """Nobody with the key sealed the bytes for this member."""
+
+
+class OlderError(DroppedError):
+    """Nobody with the key sealed the bytes for this member, but an older version tagged them."""
+
+
+class AgainError(DroppedError):
+    """The bytes came before, or so late that this can't be told."""
+
+
+class FaultError(SrmError):
+    """A text is no room. As text it says in one line what is wrong and what to write instead; `line` is where, from 1, or None where no line shows it."""
+
+    def __init__(self, code: int, kind: RoomFault | None = None, line: int | None = None, text: str = "") -> None:
+        super().__init__(code)
+        self.kind, self.line = kind, line
+        if text:
+            self.args = (text,)
 
 
 _BY_CODE: dict[int, type[SrmError]] = {
@@ -67,6 +102,12 @@ _BY_CODE: dict[int, type[SrmError]] = {
     19: ConfigError,
     22: PageError,
     26: MemberError,
+    27: FaultError,
+    28: KeyRefusedError,
+    29: UntaggedError,
+    30: OlderError,
+    31: AgainError,
+    32: CountersError,
 }
 
 

@@ -4,7 +4,7 @@ import ctypes
 import os
 import pathlib
 import subprocess
-from ctypes import POINTER, Structure, c_bool, c_char_p, c_int, c_size_t, c_uint, c_uint8, c_uint16, c_uint32, c_uint64, c_void_p
+from ctypes import POINTER, Structure, c_bool, c_char, c_char_p, c_int, c_size_t, c_uint, c_uint8, c_uint16, c_uint32, c_uint64, c_void_p
 from typing import Any
 
 MEMBERS_MAX = 32
@@ -14,10 +14,18 @@ STROKES_MAX = 65536
 DATAGRAM_MAX = 6398
 MOMENT_MAX = 281474976710656
 NEVER = 2**64 - 1
+ROOM_TEXT_MAX = 65536
+NAME_MAX = 160
+FAULT_TEXT_MAX = 256
+KEY_MIN = 16
+KEY_MAX = 1024
+SEAL_BYTES = 25
+SEALED_MAX = 6423
 
 OK = 0
 BUFFER = 20
 NOTHING = 23
+FAULT = 27
 
 
 class RawPage(Structure):
@@ -92,6 +100,14 @@ class RawMessage(Structure):
     body: "ctypes.Array[c_uint8]"
 
 
+class RawRoomFault(Structure):
+    _fields_ = [("line", c_size_t), ("length", c_size_t), ("kind", c_uint8), ("text", c_char * FAULT_TEXT_MAX)]
+    line: int
+    length: int
+    kind: int
+    text: bytes
+
+
 def _folder() -> pathlib.Path | None:
     """The folder of the library, if it is known."""
     named = os.environ.get("RINGYEW_LIB")
@@ -117,6 +133,8 @@ def _load() -> ctypes.PyDLL:
 library = _load()
 
 _AGENT = c_void_p
+_ROOM = c_void_p
+_GUARD = c_void_p
 _SIGNATURES: list[tuple[str, Any, list[Any]]] = [
     ("srm_version_string", c_char_p, []),
     ("srm_strerror", c_char_p, [c_int]),
@@ -142,6 +160,20 @@ _SIGNATURES: list[tuple[str, Any, list[Any]]] = [
     ("srm_agent_next_missing", c_int, [_AGENT, RawPage, c_uint, c_uint32, POINTER(c_uint32)]),
     ("srm_agent_outstanding", c_int, [_AGENT, POINTER(RawOutstanding)]),
     ("srm_agent_give", c_int, [_AGENT, c_uint, POINTER(RawMessage)]),
+    ("srm_room_read", c_int, [POINTER(_ROOM), c_char_p, c_size_t, POINTER(RawRoomFault)]),
+    ("srm_room_free", None, [_ROOM]),
+    ("srm_room_members", c_uint, [_ROOM]),
+    ("srm_room_find", c_int, [_ROOM, c_char_p, POINTER(c_uint)]),
+    ("srm_room_name", c_int, [_ROOM, c_uint, c_void_p, c_size_t, POINTER(c_size_t)]),
+    ("srm_room_address", c_int, [_ROOM, c_uint, c_void_p, c_size_t, POINTER(c_size_t)]),
+    ("srm_room_config", c_int, [_ROOM, c_uint, POINTER(RawConfig)]),
+    ("srm_room_linger", c_uint32, [_ROOM]),
+    ("srm_room_most_missing", c_uint32, [_ROOM]),
+    ("srm_room_guard", c_int, [POINTER(_GUARD), _ROOM, c_uint, c_uint64]),
+    ("srm_guard_new", c_int, [POINTER(_GUARD), c_char_p, c_size_t, c_uint, c_uint64]),
+    ("srm_guard_free", None, [_GUARD]),
+    ("srm_guard_seal", c_int, [_GUARD, c_uint, c_char_p, c_size_t, c_void_p, c_size_t, POINTER(c_size_t)]),
+    ("srm_guard_open", c_int, [_GUARD, c_char_p, c_size_t, POINTER(c_size_t)]),
 ]
 for _name, _result, _takes in _SIGNATURES:
     _function = getattr(library, _name)

@@ -70,6 +70,30 @@ class Cause(IntEnum):
     STRANGER = 7
 
 
+class RoomFault(IntEnum):
+    """What is wrong with a text that is no room."""
+
+    NO_TEXT = 1
+    NOT_TOML = 2
+    LACKS = 3
+    WRONG = 4
+    KEY_LENGTH = 5
+    NO_MEMBER = 6
+    TOO_MANY = 7
+    NAME = 8
+    ADDRESS = 9
+    NAME_TWICE = 10
+    ADDRESS_TWICE = 11
+    UNKNOWN = 12
+
+
+class RoomMember(NamedTuple):
+    """A member of a room: its name and its address, `IPv4:port`, `[IPv6]:port` or `host:port`."""
+
+    name: str
+    address: str
+
+
 class Heard(NamedTuple):
     """What became of a datagram: why it was ignored, or None; by which fault, 1 to 11, where it is no datagram of the session, else 0; and how
     many timers it set."""
