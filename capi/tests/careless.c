@@ -1,4 +1,4 @@
-/* Random calls of each function by a careless caller: pointers that are NULL, moments, lengths, slots, members and pages out of range, rooms that are too
+/* Random calls of each function by a careless caller: pointers that are NULL, moments, lengths, slots, members and pages out of range, buffers that are too
  * short. Each member has a twin that makes only those calls that its member was not refused. Both answer alike and are due at the same moments, so a
  * refused call changed nothing; and what it would have written stays. `careless CALLS SEED`. */
 #include "check.h"

@@ -8,11 +8,11 @@
 
 #define CODED(name, call)                              \
     __extension__({                                    \
-        static uint32_t seen_;                         \
+        static uint64_t seen_;                         \
         int code_ = (call);                            \
         if (!(seen_ >> code_ & 1))                     \
             fprintf(stderr, "%s %d\n", (name), code_); \
-        seen_ |= UINT32_C(1) << code_;                 \
+        seen_ |= UINT64_C(1) << code_;                 \
         code_;                                         \
     })
 
@@ -32,5 +32,14 @@
 #define srm_agent_next_missing(...) CODED("srm_agent_next_missing", srm_agent_next_missing(__VA_ARGS__))
 #define srm_agent_outstanding(...) CODED("srm_agent_outstanding", srm_agent_outstanding(__VA_ARGS__))
 #define srm_agent_give(...) CODED("srm_agent_give", srm_agent_give(__VA_ARGS__))
+#define srm_room_read(...) CODED("srm_room_read", srm_room_read(__VA_ARGS__))
+#define srm_room_find(...) CODED("srm_room_find", srm_room_find(__VA_ARGS__))
+#define srm_room_name(...) CODED("srm_room_name", srm_room_name(__VA_ARGS__))
+#define srm_room_address(...) CODED("srm_room_address", srm_room_address(__VA_ARGS__))
+#define srm_room_config(...) CODED("srm_room_config", srm_room_config(__VA_ARGS__))
+#define srm_room_guard(...) CODED("srm_room_guard", srm_room_guard(__VA_ARGS__))
+#define srm_guard_new(...) CODED("srm_guard_new", srm_guard_new(__VA_ARGS__))
+#define srm_guard_seal(...) CODED("srm_guard_seal", srm_guard_seal(__VA_ARGS__))
+#define srm_guard_open(...) CODED("srm_guard_open", srm_guard_open(__VA_ARGS__))
 
 #endif

@@ -21,6 +21,10 @@ CRATES = {
     "DEPTH_MIN": ("srm_bucket/src/limits.rt", "GREATEST_LENGTH"),
     "DEPTH_MAX": ("srm_bucket/src/limits.rt", "GREATEST_DEPTH"),
     "WAIT_MAX": ("srm_timers/src/limits.rt", "GREATEST_TIMER_SETTING"),
+    "ROOM_TEXT_MAX": ("srm_join/src/reading.rt", "LONGEST_TEXT"),
+    "KEY_MIN": ("srm_join/src/sealing.rt", "SHORTEST_KEY"),
+    "KEY_MAX": ("srm_join/src/sealing.rt", "LONGEST_KEY"),
+    "SEAL_BYTES": ("srm_guard/src/seal.rt", "TRAILER_BYTES"),
 }
 
 
@@ -31,7 +35,7 @@ def numbers(text, pattern):
 
 def constants(file):
     """The constants of a source file of a crate."""
-    return numbers((TOP / "crates" / file).read_text(), r"^pub const (\w+): \w+ = ([\d_]+);")
+    return numbers((TOP / "crates" / file).read_text(), r"^(?:pub )?const (\w+): \w+ = ([\d_]+);")
 
 
 def longest_datagram():
@@ -59,17 +63,18 @@ def numbered_in(file, pattern):
 
 def numbered():
     """Where the bindings read numbers of srm.h: the file, what its names are called there, the names with their numbers, and how many there are at least."""
-    error, heard, message = (f"bindings/rust/ringyew/src/{name}.rs" for name in ("error", "heard", "message"))
+    error, heard, message, room = (f"bindings/rust/ringyew/src/{name}.rs" for name in ("error", "heard", "message", "room"))
     errors, values, agent = (f"bindings/python/ringyew/src/ringyew/{name}.py" for name in ("_errors", "_values", "_agent"))
-    yield error, "ERROR_", numbered_in(error, r"^            (\d+) => Error::(\w+),"), 11
-    yield error, "ERROR_", [(number, word) for word, number in numbered_in(error, r"^            Error::(\w+) => (\d+),")], 11
+    yield error, "ERROR_", numbered_in(error, r"^            (\d+) => Error::(\w+),"), 16
+    yield error, "ERROR_", [(number, word) for word, number in numbered_in(error, r"^            Error::(\w+) => (\d+),")], 16
     yield heard, "CAUSE_", numbered_in(heard, r"^            (\d+) => Some\(Cause::(\w+)"), 7
     yield heard, "", numbered_in(heard, r"^            (\d+) => State::(\w+),"), 2
+    yield room, "FAULT_", numbered_in(room, r"^            (\d+) => RoomFaultKind::(\w+),"), 12
     yield message, "MESSAGE_", numbered_in(message, r"^            (\d+) => Message::(\w+)"), 3
-    yield errors, "ERROR_", numbered_in(errors, r"^    (\d+): (\w+?)(?:Refused)?Error,"), 11
+    yield errors, "ERROR_", numbered_in(errors, r"^    (\d+): (\w+?)(?:Refused)?Error,"), 17
     yield agent, "ERROR_", [(number, word) for word, number in numbered_in(agent, r"^ +raise (\w+)Error\((\d+)\)$")], 5
     yield agent, "MESSAGE_", numbered_in(agent, r"^    if raw\.kind == (\d+):\n        return (\w+)\("), 3
-    for name, prefix, least in (("Cause", "CAUSE_", 7), ("State", "", 3)):
+    for name, prefix, least in (("Cause", "CAUSE_", 7), ("State", "", 3), ("RoomFault", "FAULT_", 12)):
         body = re.search(rf"^class {name}\(IntEnum\):(.*?)(?=^class|\Z)", (TOP / values).read_text(), re.M | re.S)[1]
         yield values, prefix, [(number, word) for word, number in re.findall(r"^    (\w+) = (\d+)$", body, re.M)], least
 
@@ -89,6 +94,9 @@ def of_definitions(coded):
         told = specified("Codes.antt", rf"^{function}\.(\w+) = (\d+)$")
         for variant, number in variants(file, name).items():
             yield f"{function}.{variant}", told.get(variant), number
+    told = specified("Codes.antt", r"^kind_number \(?kinds\.(\w+).* = (\d+)$")
+    for variant in re.findall(r"^    (\w+)(?:\(.*\))?,$", re.search(r"^pub enum Fault \{(.*?)^\}", (TOP / "crates/srm_room/src/fault.rt").read_text(), re.M | re.S)[1], re.M):
+        yield f"kind_number of {variant}", told.get(snake(variant)), coded[f"FAULT_{snake(variant)}"]
     told = specified("Shapes.antt", r"^raw_message \(?(\w+).* kind = (\d+) \}$")
     for variant in variants("srm_names/src/page_msg.rt", "PageMsg"):
         yield f"raw_message of {variant}", told.get(variant), coded[f"MESSAGE_{variant}"]
@@ -96,10 +104,12 @@ def of_definitions(coded):
 
 def of_crates(defined, coded):
     """What is to be the same in srm.h and in the crates: a title and the two numbers."""
-    for name in set(defined) - {"CONFIG_SIZE_MIN", "VERSION_MAJOR", "VERSION_MINOR", "VERSION_PATCH", "DATAGRAM_MAX"}:
+    for name in set(defined) - {"CONFIG_SIZE_MIN", "VERSION_MAJOR", "VERSION_MINOR", "VERSION_PATCH", "DATAGRAM_MAX", "SEALED_MAX", "NAME_MAX", "FAULT_TEXT_MAX"}:
         file, theirs = CRATES.get(name, (None, "nothing"))
         yield f"SRM_{name} and {theirs}", defined[name], file and constants(file)[theirs]
     yield "SRM_DATAGRAM_MAX and the format's longest", defined["DATAGRAM_MAX"], longest_datagram()
+    yield "SRM_SEALED_MAX and what is sealed", defined["SEALED_MAX"], defined["DATAGRAM_MAX"] + constants("srm_guard/src/seal.rt")["TRAILER_BYTES"]
+    yield "SRM_NAME_MAX and characters of 4 bytes", defined["NAME_MAX"], 4 * constants("srm_room/src/naming.rt")["LONGEST_NAME"]
     yield "SRM_NEVER and or_never", 2**64 - 1, numbers((TOP / "crates/srm_ffi/specs/Codes.antt").read_text(), r"^or_never (None) = (\d+)$")["None"]
     for file, name, prefix in (
         ("srm_entries/src/fault.rt", "AgentFault", "ERROR_"),

@@ -3,6 +3,7 @@
  * that is collected asks for all its room at first, and where that is refused grows by its elements. Linked with --wrap for each of malloc,
  * calloc, realloc and free. */
 #include "check.h"
+#include "room_text.h"
 
 /* How many allocations go well before one is refused (below 0: none is), and how many blocks are held. */
 static long before_refusal = -1, held;
@@ -42,8 +43,8 @@ void __wrap_free(void *at)
 }
 
 /* How often each call ran out of memory. Showing and giving take none, so they never are. */
-enum { NEW, DRAW, HEAR, TICK, SHOW, GIVE, CALLS };
-static const char *const names[CALLS] = {"new", "draw", "hear", "tick", "show", "give"};
+enum { NEW, DRAW, HEAR, TICK, READ, ROOM_GUARD, GUARD, SHOW, GIVE, CALLS };
+static const char *const names[CALLS] = {"new", "draw", "hear", "tick", "read", "room's guard", "guard", "show", "give"};
 static long refusals[CALLS];
 static uint64_t told;
 
@@ -131,17 +132,50 @@ static void play(void)
     srm_agent_free(members[1]);
 }
 
+/* A room is read, and refused; and its guards, by the room and by the key, seal and open. */
+static void join(void)
+{
+    srm_room *room;
+    srm_room_fault fault;
+    srm_guard *from, *to;
+    uint8_t sealed[27];
+    size_t length;
+    int code;
+    AGAIN(READ, code, srm_room_read(&room, HEAD ADA, sizeof(HEAD ADA) - 1, &fault));
+    if (code != SRM_ERROR_FAULT)
+        must(code ? code : SRM_ERROR_FAULT, "refuse");
+    tell(fault.text, fault.length);
+    AGAIN(READ, code, srm_room_read(&room, OUR_ROOM, sizeof OUR_ROOM - 1, &fault));
+    must(code, "read");
+    AGAIN(ROOM_GUARD, code, srm_room_guard(&from, room, 0, 1));
+    must(code, "room's guard");
+    srm_room_free(room);
+    AGAIN(GUARD, code, srm_guard_new(&to, our_key, sizeof our_key, 1, 1));
+    must(code, "guard");
+    must(srm_guard_seal(from, 1, "hi", 2, sealed, sizeof sealed, &length), "seal");
+    must(srm_guard_open(to, sealed, length, &length), "open");
+    tell(sealed, sizeof sealed);
+    srm_guard_free(from);
+    srm_guard_free(to);
+}
+
+static void play_all(void)
+{
+    join();
+    play();
+}
+
 int main(void)
 {
     long before = held;
-    play();
+    play_all();
     uint64_t wanted = told;
     WANT(held, before);
     long count = 0;
     for (;; count++) {
         told = 0;
         before_refusal = count;
-        play();
+        play_all();
         if (told != wanted || held != before)
             printf("memory: with allocation %ld refused: %s, %ld blocks left\n", count, told == wanted ? "the same" : "something else", held - before), failures++;
         if (before_refusal >= 0)

@@ -346,8 +346,8 @@ static void full_stream(void)
     srm_agent_free(a);
 }
 
-/* A room that is too short loses nothing: the same datagram comes again. */
-static void short_rooms(void)
+/* A buffer that is too short loses nothing: the same datagram comes again. */
+static void short_buffers(void)
 {
     srm_agent *a = agent_of(0, 2);
     uint8_t body[SRM_BODY_MAX], room[SRM_DATAGRAM_MAX];
@@ -687,7 +687,7 @@ static void texts(void)
 {
     const char *unknown = srm_strerror(-1);
     for (int code = -3; code < 40; code++) {
-        int is_known = (code >= 0 && code <= 6) || (code >= 16 && code <= 26);
+        int is_known = (code >= 0 && code <= 6) || (code >= 16 && code <= 32);
         WANT(srm_strerror(code) != NULL, 1);
         WANT(strcmp(srm_strerror(code), unknown) != 0, is_known);
     }
@@ -704,7 +704,7 @@ int main(void)
     last_page();
     first_codes();
     full_stream();
-    short_rooms();
+    short_buffers();
     left_by_ticks();
     hearing();
     leaving();

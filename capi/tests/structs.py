@@ -6,9 +6,9 @@ import re
 import sys
 
 TOP = pathlib.Path(__file__).resolve().parent.parent.parent
-STRUCTS = ("page", "name", "config", "heard", "ticked", "outstanding", "message")
+STRUCTS = ("page", "name", "config", "heard", "ticked", "outstanding", "message", "room_fault")
 # What each language calls a type of C.
-TYPES = {"u8": "uint8_t", "u16": "uint16_t", "u32": "uint32_t", "u64": "uint64_t", "usize": "size_t", "size_t": "size_t"}
+TYPES = {"u8": "uint8_t", "u16": "uint16_t", "u32": "uint32_t", "u64": "uint64_t", "usize": "size_t", "size_t": "size_t", "char": "char"}
 
 
 def of_c(name):
@@ -44,9 +44,9 @@ def of_python(name):
 def main():
     wrong = []
     for name in STRUCTS:
-        wanted, raw = of_c(name), name.capitalize()
-        # A message's body is written into a room of its own.
-        crossing = [field for field in wanted if field[0] != "body"]
+        wanted, raw = of_c(name), "".join(word.capitalize() for word in name.split("_"))
+        # A message's body and a fault's text are written into buffers of their own.
+        crossing = [field for field in wanted if field[0] not in ("body", "text")]
         for where, fields, found in (
             ("sys.rs", wanted, of_rust("bindings/rust/ringyew/src/sys.rs", raw)),
             ("_library.py", wanted, of_python(f"Raw{raw}")),
