@@ -20,7 +20,7 @@ static srm_agent *agent;
 static srm_guard *guard;
 static struct { struct sockaddr_storage at; socklen_t size; } members[SRM_MEMBERS_MAX];
 static int udp;
-static uint64_t asked; /* when somebody last asked for something, or got it */
+static uint64_t asked, linger; /* when somebody last asked for something, or got it; and how long the member stays from then on */
 static char line[SRM_BODY_MAX + 1]; /* input that is not drawn yet: a byte more than the longest line, so that a longer one is seen */
 static size_t have;                 /* how much of it there is */
 
@@ -127,7 +127,9 @@ static srm_room *read_room(const char *path)
     int code = srm_room_read(&room, text, length, &fault);
     if (fault.line)
         errx(1, "room %s, line %zu: %s", path, fault.line, fault.text);
-    check(code, code == SRM_ERROR_FAULT ? fault.text : path);
+    if (code == SRM_ERROR_FAULT)
+        errx(1, "room %s: %s", path, fault.text);
+    check(code, path);
     return room;
 }
 
@@ -163,8 +165,7 @@ static void resolve(srm_room *room, unsigned place)
     freeaddrinfo(found);
 }
 
-/* Joins the room. Returns for how long the member stays for others. */
-static uint64_t join(const char *path, const char *me)
+static void join(const char *path, const char *me)
 {
     srm_room *room = read_room(path);
     srm_config_default(&config);
@@ -176,16 +177,15 @@ static uint64_t join(const char *path, const char *me)
         err(1, "bind");
     check(srm_room_guard(&guard, room, config.me, micros(CLOCK_REALTIME)), "guard");
     check(srm_agent_new(&agent, &config, now() ^ (uint64_t)getpid() << 32, now()), "join");
-    uint64_t linger = srm_room_linger(room);
+    linger = srm_room_linger(room);
     srm_room_free(room);
-    return linger;
 }
 
 int main(int argc, char **argv)
 {
     if (argc != 5 || strcmp(argv[1], "--room") || strcmp(argv[3], "--me"))
         return fputs("node: name a room and a member of it\nusage: node --room FILE --me NAME\n", stderr), 2;
-    uint64_t linger = join(argv[2], argv[4]);
+    join(argv[2], argv[4]);
     for (bool ended = false; !ended || have || now() < asked + linger;) {
         uint64_t draws = draw_lines();
         if (turn(have ? draws : ended ? asked + linger : SRM_NEVER, !ended && have < sizeof line) && !read_lines())

@@ -1,18 +1,23 @@
-"""Members by the examples `node` and one `srm node` on loopback, over a relay that loses a tenth: all take the same strokes.
+"""Members of one room by the examples `node` and one `srm node` on loopback, over a relay that loses a tenth: all take the same strokes, and the program's record is honest.
 
 nodes.py SRM NODE..: the program, and the command of each other member."""
 
+import pathlib
 import random
 import re
+import secrets
 import shlex
 import socket
 import subprocess
 import sys
+import tempfile
 import threading
 
 STROKES = 40
-SESSION = "7"
-SECONDS = 60
+NAMES = ("ada", "grace", "edsger", "barbara", "tony")
+SECONDS = 90
+# What all members have in common, as a room has it. Who joins by options in place of a room has the same.
+SESSION, LINGER, SETTINGS = 7, 8_000_000, {"least-distance": 5_000, "rate": 64_000, "depth": 4_204, "most-missing": 16_777_216}
 
 
 def bound():
@@ -43,6 +48,32 @@ class Relay(threading.Thread):
                 self.udp.sendto(datagram, self.to)
 
 
+def room_of(key, addresses):
+    """The text of a room with these addresses. A relay stands between members, so each has a room of its own."""
+    people = "".join(f'[[member]]\nname = "{name}"\naddress = "{place}"\n\n' for name, place in zip(NAMES, addresses))
+    settings = "".join(f"{name} = {value}\n" for name, value in SETTINGS.items())
+    return f'ringyew = 1\nsession = {SESSION}\nkey = "{key.hex()}"\n\n{people}[settings]\nwaits = [2, 2, 1, 1]\nlinger = {LINGER}\n{settings}'
+
+
+def of_srm(srm, me, room, key, addresses, record):
+    """The command line of `srm node`: by its room where it takes one, else by the same words as options."""
+    staying = ["--stay", "10000000", "--record", str(record)]
+    if "--room" in subprocess.run([srm, "node", "--help"], capture_output=True, text=True, check=True).stdout:
+        return [srm, "node", "--room", str(room), "--me", NAMES[me], *staying]
+    file = room.with_suffix(".key")
+    file.write_bytes(key)
+    words = [word for name, value in SETTINGS.items() for word in (f"--{name}", str(value))]
+    return [srm, "node", "--session", str(SESSION), "--me", str(me), "--waits", "2,2,1,1", *words, "--key", str(file), *staying, *addresses]
+
+
+def audited(srm, record):
+    """What is wrong with the program's record, by `srm audit`; nothing if it is honest."""
+    ran = subprocess.run([srm, "audit", str(record)], capture_output=True, text=True, check=False)
+    if ran.returncode or not ran.stdout.startswith("honest"):
+        return [f"srm audit: status {ran.returncode}: {ran.stdout}{ran.stderr}"]
+    return []
+
+
 def taken(told):
     """The strokes that a member took, by source and number, and whether it is gone."""
     strokes = {(int(source), int(number)): text for source, number, text in re.findall(r"^took \d 0 draw (\d) (\d+) (.*)$", told, re.M)}
@@ -56,7 +87,14 @@ def in_order(told, members):
 
 
 def main(srm, *nodes):
+    with tempfile.TemporaryDirectory() as folder:
+        return run(pathlib.Path(folder), srm, *nodes)
+
+
+def run(folder, srm, *nodes):
     count = len(nodes) + 1
+    key = secrets.token_bytes(32)
+    record = folder / "srm.record"
     # The ports are free when they are asked for; whoever takes one in between makes the test fail in words.
     own = [bound() for _ in range(count)]
     places = [udp.getsockname() for udp in own]
@@ -67,11 +105,14 @@ def main(srm, *nodes):
         relay.start()
     members = []
     for me in range(count):
-        others = ["%s:%d" % places[me] if to == me else address(relays[to].udp) for to in range(count)]
+        addresses = ["%s:%d" % places[me] if to == me else address(relays[to].udp) for to in range(count)]
+        room = folder / f"{NAMES[me]}.room"
+        room.touch(0o600)
+        room.write_text(room_of(key, addresses))
         if me < len(nodes):
-            command = [*shlex.split(nodes[me]), SESSION, str(me), "8", *others]
+            command = [*shlex.split(nodes[me]), "--room", str(room), "--me", NAMES[me]]
         else:
-            command = [srm, "node", "--session", SESSION, "--me", str(me), "--stay", "10000000", *others]
+            command = of_srm(srm, me, room, key, addresses, record)
         members.append(subprocess.Popen(command, stdin=subprocess.PIPE, stdout=subprocess.PIPE, text=True))
     for me, member in enumerate(members):
         member.stdin.write("".join(f"stroke {number} of member {me}\n" for number in range(STROKES)))
@@ -102,7 +143,8 @@ def main(srm, *nodes):
     came, lost = sum(relay.came for relay in relays), sum(relay.lost for relay in relays)
     if not lost:
         wrong.append("nothing was lost")
-    print("\n".join(wrong) or f"{count * STROKES} strokes, each taken by all {count}, with {lost} of {came} datagrams lost")
+    wrong += audited(srm, record)
+    print("\n".join(wrong) or f"{count * STROKES} strokes, each taken by all {count}, with {lost} of {came} datagrams lost; an honest record")
     return len(wrong) > 0
 
 

@@ -7,7 +7,7 @@ ghost use Rattle.srm_ffi.specs.declared.codes.TheConstants.{BUFFER, SLOT};
 ghost use Rattle.srm_ffi.specs.Shapes.{body_of};
 ghost use Rattle.srm_ffi.specs.Calls.{GiveCall, IsRefused, TellsMessage};
 
-use crate::codes::{DONE, EMPTY, NOTHING, BUFFER, SLOT, of_fault};
+use crate::codes::{BUFFER, DONE, EMPTY, NOTHING, SLOT, of_fault};
 use crate::shapes::RawMessage;
 use srm_agent::AgentFault;
 use srm_names::{LONGEST_BODY, PAGES, PageMsg};

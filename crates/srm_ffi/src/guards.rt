@@ -8,12 +8,10 @@ ghost use Rattle.srm_ffi.specs.declared.codes.TheConstants.{MEMBER};
 ghost use Rattle.srm_ffi.specs.Joins.{MakesSeal, OpenCall, Refuses, SealByCall, SealCall, SealInCall, TellsOpened, TellsSealed};
 
 use crate::codes::{
-    AGAIN, COUNTERS, DONE, EMPTY, FULL, MEMBER, OLDER, BUFFER, UNTAGGED, of_seal_fault,
+    AGAIN, BUFFER, COUNTERS, DONE, EMPTY, FULL, MEMBER, OLDER, UNTAGGED, of_seal_fault,
 };
 use srm_guard::{Opened, Seal};
-use srm_join::{
-    RoomHandle, SealFault, SealHandle, Sealed, seal_by, seal_datagram, seal_in,
-};
+use srm_join::{RoomHandle, SealFault, SealHandle, Sealed, seal_by, seal_datagram, seal_in};
 use srm_names::Member;
 use srm_room::Room;
 use std::alloc::Global;

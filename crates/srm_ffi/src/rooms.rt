@@ -8,10 +8,12 @@ ghost use Rattle.srm_ffi.specs.declared.codes.TheConstants.{MEMBER};
 ghost use Rattle.srm_ffi.specs.Codes.{refusal_kind};
 ghost use Rattle.srm_ffi.specs.Joins.{AddressCall, ConfigCall, FindCall, NameCall, NumberCall, ReadCall, Refuses, TellsConfig, TellsFault, TellsMember, TellsText, linger_of, member_count, most_missing_of};
 
-use crate::codes::{DONE, EMPTY, FAULT, FULL, MEMBER, BUFFER, of_fault, refusal_kind};
+use crate::codes::{BUFFER, DONE, EMPTY, FAULT, FULL, MEMBER, of_fault, refusal_kind};
 use crate::shapes::{RawConfig, RawRoomFault};
 use srm_agent::AgentFault;
-use srm_join::{Refusal, RoomHandle, address_at, config_in, explain, lay_start, name_at, read_text};
+use srm_join::{
+    Refusal, RoomHandle, address_at, config_in, explain, lay_start, name_at, read_text,
+};
 use srm_names::Member;
 use srm_room::{Room, RoomError};
 use srm_seat::lay_over;
@@ -56,12 +58,7 @@ fn read_boxed(alloc: Global, text: &[u8]) -> Result<Box<Room>, Refusal>
     }
 }
 
-fn tell_fault(
-    alloc: Global,
-    refusal: &Refusal,
-    words: &mut [u8],
-    to: &mut RawRoomFault,
-) -> u32
+fn tell_fault(alloc: Global, refusal: &Refusal, words: &mut [u8], to: &mut RawRoomFault) -> u32
     ensures { TellsFault (refusal_kind refusal.now) result words.old words.new to.old to.new }
 {
     let Some(kind) = refusal_kind(refusal) else {

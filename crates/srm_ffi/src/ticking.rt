@@ -6,7 +6,7 @@ ghost use Rattle.srm_ffi.specs.declared.codes.TheConstants.{MOMENT};
 ghost use Rattle.srm_ffi.specs.Shapes.{raw_ticked};
 ghost use Rattle.srm_ffi.specs.Calls.{DatagramCall, IsRefused, RepairCall, RequestCall, TellsHandover, TellsName, TickCall, written};
 
-use crate::codes::{DONE, EMPTY, MOMENT, NOTHING, BUFFER, of_answer};
+use crate::codes::{BUFFER, DONE, EMPTY, MOMENT, NOTHING, of_answer};
 use crate::shapes::{RawName, RawTicked};
 use srm_agent::AgentFault;
 use srm_names::{LATEST_MOMENT, Name};

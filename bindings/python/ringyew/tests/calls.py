@@ -4,8 +4,28 @@ import unittest
 from unittest import mock
 
 import ringyew
-from ringyew import FIRST_PAGE, Agent, Cause, Close, Draw, Name, Open, Page, State
+from ringyew import FIRST_PAGE, Agent, Cause, Close, Draw, Guard, Name, Open, Page, Room, RoomFault, RoomMember, State
 from ringyew._library import library
+
+
+OUR_ROOM = """
+ringyew = 1
+session = 7
+key = "000102030405060708090a0b0c0d0e0f"
+[[member]]
+name = "ada"
+address = "192.0.2.7:47100"
+[[member]]
+name = "gräce"
+address = "[2001:db8::7]:47101"
+[settings]
+waits = [2, 3, 1, 4]
+least-distance = 5000
+rate = 64000
+depth = 4204
+linger = 2000000
+most-missing = 9
+"""
 
 
 def agent(me: int = 0) -> Agent:
@@ -138,6 +158,65 @@ class Calls(unittest.TestCase):
             self.assertEqual(list(a.messages(1)), [Close()])
         self.assertRaises(ValueError, a.tick, 5)
         a.close()
+
+    def test_a_room_is_read(self) -> None:
+        with Room(OUR_ROOM.encode()) as room:
+            self.assertEqual(room.members, [RoomMember("ada", "192.0.2.7:47100"), RoomMember("gräce", "[2001:db8::7]:47101")])
+            self.assertEqual([room.find(who) for who in ("ada", "gräce", "0", "1")], [0, 1, 0, 1])
+            for who in ("2", "eve", "", "ada\0"):
+                self.assertRaises(ringyew.MemberError, room.find, who)
+            self.assertEqual((room.linger, room.most_missing), (2_000_000, 9))
+            settings = {"me": 1, "members": 2, "session": 7, "rate": 64000, "depth": 4204, "c1": 2, "c2": 3, "d1": 1, "d2": 4, "least_distance": 5000}
+            self.assertEqual(room.settings(1), settings)
+            with Agent(**room.settings(1), seed=1, now=0) as a:
+                self.assertEqual(a.state, State.ACTIVE)
+            for me in (2, 32, 256, 2**32, -1):
+                self.assertRaises(ringyew.MemberError, room.settings, me)
+                self.assertRaises(ringyew.MemberError, room.guard, me, 0)
+        self.assertRaises(ValueError, room.find, "ada")
+        room.close()
+
+    def test_a_text_that_is_no_room_is_refused(self) -> None:
+        for text, kind, line, words in (
+            (OUR_ROOM.replace("ringyew = 1", "ringyew = 2"), RoomFault.WRONG, 2, "`ringyew` is of another kind or out of its range: write the format, ringyew = 1"),
+            (OUR_ROOM.replace("gräce", "ada"), RoomFault.NAME_TWICE, 9, "member 1: a member before has its `name` too: give it another"),
+            ("", RoomFault.LACKS, None, "there is no `ringyew`: write the format, ringyew = 1"),
+            ("#" * 70_000, RoomFault.NO_TEXT, None, "that is no text of at most 65536 bytes: write a room as srm room new does"),
+        ):
+            with self.subTest(words), self.assertRaises(ringyew.FaultError) as refused:
+                Room(text.encode())
+            self.assertEqual((refused.exception.kind, refused.exception.line, str(refused.exception)), (kind, line, words))
+
+    def test_what_is_sealed_opens_once(self) -> None:
+        with Room(OUR_ROOM.encode()) as room:
+            sender, receiver = room.guard(0, start=258), room.guard(1, start=258)
+        with sender, receiver:
+            sealed = sender.seal(1, b"hi")
+            self.assertEqual(sealed.hex(), "68690000000000000001025d3a9272a433670d9435622c43bad678")  # as hmac has it
+            self.assertRaises(ringyew.UntaggedError, receiver.open, sealed[:-1])
+            self.assertRaises(ringyew.UntaggedError, sender.open, sealed)
+            self.assertEqual(receiver.open(sealed), b"hi")
+            self.assertRaises(ringyew.AgainError, receiver.open, sealed)
+            self.assertRaises(ringyew.OlderError, receiver.open, bytes.fromhex("68699d33d01c1f9024458ff7db4a2156aec5"))
+            self.assertTrue(issubclass(ringyew.OlderError, ringyew.DroppedError))
+            for to in (32, 256, 2**32, -1):
+                self.assertRaises(ringyew.MemberError, sender.seal, to, b"hi")
+            longest = sender.seal(1, bytes(ringyew.DATAGRAM_MAX))
+            self.assertEqual((len(longest), len(receiver.open(longest))), (ringyew.SEALED_MAX, ringyew.DATAGRAM_MAX))
+        self.assertRaises(ValueError, sender.seal, 1, b"")
+
+    def test_guards_by_keys_of_each_length(self) -> None:
+        for length in (0, 15, 1025):
+            with self.assertRaises(ringyew.KeyRefusedError):
+                Guard(key=bytes(length), me=0, start=0)
+        for me in (32, 256, 2**32, -1):
+            with self.assertRaises(ringyew.MemberError):
+                Guard(key=bytes(16), me=me, start=0)
+        for start in (-1, 2**64):
+            with self.assertRaises(ValueError):
+                Guard(key=bytes(16), me=0, start=start)
+        with Guard(key=bytes(1024), me=31, start=2**64 - 1) as last:
+            self.assertRaises(ringyew.CountersError, last.seal, 1, b"")
 
     def test_the_library_has_the_version_of_the_package(self) -> None:
         self.assertEqual(ringyew.library_version(), "0.1.0")

@@ -1,6 +1,6 @@
 //! The crate's calls, at worked values.
 
-use ringyew::{Agent, BODY_MAX, Cause, Config, DATAGRAM_MAX, Error, MOMENT_MAX, Message, Name, Page, State};
+use ringyew::{Agent, BODY_MAX, Cause, Config, DATAGRAM_MAX, Error, Guard, MOMENT_MAX, Message, Name, Page, Room, RoomError, RoomFaultKind, State};
 use std::time::Duration;
 
 fn agent(me: u8) -> Agent {
@@ -166,6 +166,84 @@ fn an_agent_leaves_in_another_thread() {
     assert_eq!(agent.draw(Page::FIRST, b"", 5), Err(Error::Gone));
 }
 
+const OUR_ROOM: &str = r#"
+ringyew = 1
+session = 7
+key = "000102030405060708090a0b0c0d0e0f"
+[[member]]
+name = "ada"
+address = "192.0.2.7:47100"
+[[member]]
+name = "gräce"
+address = "[2001:db8::7]:47101"
+[settings]
+waits = [2, 3, 1, 4]
+least-distance = 5000
+rate = 64000
+depth = 4204
+linger = 2000000
+most-missing = 9
+"#;
+
+#[test]
+fn a_room_is_read() {
+    let mut room = Room::read(OUR_ROOM.as_bytes()).unwrap();
+    assert_eq!(room.members(), 2);
+    assert_eq!((room.name(1).as_deref(), room.address(1).as_deref()), (Ok("gräce"), Ok("[2001:db8::7]:47101")));
+    assert_eq!((room.name(2), room.address(u8::MAX)), (Err(Error::Member), Err(Error::Member)));
+    assert_eq!(["ada", "gräce", "0", "1", "2", "eve", "", "ada\0"].map(|who| room.find(who)), [Some(0), Some(1), Some(0), Some(1), None, None, None, None]);
+    assert_eq!((room.linger(), room.most_missing()), (Duration::from_secs(2), 9));
+    let config = room.config(1).unwrap();
+    assert_eq!(config, Config { rate: 64_000, depth: 4_204, c1: 2, c2: 3, d1: 1, d2: 4, least_distance: 5_000, ..Config::new(1, 2, 7) });
+    assert!(Agent::new(&config, 0, 0).is_ok());
+    assert_eq!(room.config(2), Err(Error::Member));
+    assert_eq!(room.guard(2, 0).unwrap_err(), Error::Member);
+}
+
+#[test]
+fn a_text_that_is_no_room_is_refused() {
+    for (text, kind, line, words) in [
+        (OUR_ROOM.replace("ringyew = 1", "ringyew = 2"), RoomFaultKind::Wrong, Some(2), "`ringyew` is of another kind or out of its range: write the format, ringyew = 1"),
+        (OUR_ROOM.replace("gräce", "ada"), RoomFaultKind::NameTwice, Some(9), "member 1: a member before has its `name` too: give it another"),
+        (String::new(), RoomFaultKind::Lacks, None, "there is no `ringyew`: write the format, ringyew = 1"),
+        ("#".repeat(70_000), RoomFaultKind::NoText, None, "that is no text of at most 65536 bytes: write a room as srm room new does"),
+    ] {
+        let Err(RoomError::Fault(fault)) = Room::read(text.as_bytes()) else { panic!("{text}") };
+        assert_eq!((fault.kind, fault.line, fault.to_string().as_str()), (kind, line, words));
+    }
+}
+
+#[test]
+fn what_is_sealed_opens_once() {
+    let mut room = Room::read(OUR_ROOM.as_bytes()).unwrap();
+    let (mut from, mut to) = (room.guard(0, 258).unwrap(), room.guard(1, 258).unwrap());
+    drop(room);
+    let sealed = from.seal(1, b"hi").unwrap();
+    // As Python's hmac has it.
+    assert_eq!(sealed, [&b"hi\x00\x00\x00\x00\x00\x00\x00\x01\x02"[..], b"\x5d\x3a\x92\x72\xa4\x33\x67\x0d\x94\x35\x62\x2c\x43\xba\xd6\x78"].concat());
+    assert_eq!(to.open(&sealed[..26]), Err(Error::Untagged));
+    assert_eq!(from.open(&sealed), Err(Error::Untagged));
+    assert_eq!(to.open(&sealed), Ok(&b"hi"[..]));
+    assert_eq!(to.open(&sealed), Err(Error::Again));
+    assert_eq!(to.open(b"hi\x9d\x33\xd0\x1c\x1f\x90\x24\x45\x8f\xf7\xdb\x4a\x21\x56\xae\xc5"), Err(Error::Older));
+    assert_eq!(from.seal(32, b"hi"), Err(Error::Member));
+    let longest = from.seal(1, &[0; DATAGRAM_MAX]).unwrap();
+    assert_eq!(longest.len(), ringyew::SEALED_MAX);
+    let mut to = std::thread::spawn(move || to).join().unwrap();
+    assert_eq!(to.open(&longest).map(<[u8]>::len), Ok(DATAGRAM_MAX));
+}
+
+#[test]
+fn guards_by_keys_of_each_length() {
+    for length in [0, 15, 1_025] {
+        assert_eq!(Guard::new(&vec![0; length], 0, 0).unwrap_err(), Error::Key);
+    }
+    assert_eq!(Guard::new(&[0; 16], 32, 0).unwrap_err(), Error::Member);
+    assert!(Guard::new(&[0; 1_024], 31, 0).is_ok());
+    let mut last = Guard::new(&[0; 16], 0, u64::MAX).unwrap();
+    assert_eq!(last.seal(1, b""), Err(Error::Counters));
+}
+
 #[test]
 fn errors_tell_their_code_and_cause() {
     for (error, code, text) in [
@@ -173,7 +251,8 @@ fn errors_tell_their_code_and_cause() {
         (Error::BodyLong, 5, "the body is too long"),
         (Error::Memory, 6, "out of memory"),
         (Error::Buffer(33), 20, "the buffer is too short"),
-        (Error::Member, 26, "a member is past 31"),
+        (Error::Member, 26, "there is no such member"),
+        (Error::Counters, 32, "all counters to the member were used"),
         (Error::Other(99), 99, "an unknown code"),
     ] {
         assert_eq!((error.code(), error.to_string().as_str()), (code, text));
