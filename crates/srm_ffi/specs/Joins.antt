@@ -1,5 +1,5 @@
 -- What a call does to what the handle of a room or of a seal holds, which code it answers, and what it writes.
-use Rattle.std.specs.Prelude.{◌≡◌, ◌<◌, ◌≤◌, ℕ, nat_le, if◌then◌else◌, List, length, drop, Option, Some, None, Result, Ok, Err}
+use Rattle.std.specs.Prelude.{◌≡◌, ◌⊎◌, ◌<◌, ◌≤◌, ℕ, nat_le, if◌then◌else◌, List, length, drop, Option, Some, None, Result, Ok, Err}
 use Rattle.srm_room.specs.Rooms.{Content}
 use Rattle.srm_room.specs.Places.{member_of}
 use Rattle.srm_guard.specs.Seals.{SealView, Opens}

@@ -223,7 +223,7 @@ fn tell_address(room: &Room, place: u32, buffer: &mut [u8], to: &mut usize) -> u
 }
 
 fn tell_text(text: Option<&str>, buffer: &mut [u8], to: &mut usize) -> u32
-    ensures { TellsText (option_map (λ text. text.now) text) result buffer.old buffer.new to.old to.new }
+    ensures { TellsText (option_map (λ found. found.now) text.entry) result buffer.old buffer.new to.old to.new }
 {
     let Some(text) = text else {
         return MEMBER;
