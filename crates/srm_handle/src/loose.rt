@@ -6,7 +6,7 @@ ghost use Rattle.std.specs.Box.Ownership.{box_owns};
 use std::alloc::Allocator;
 use std::marker::Model;
 
-/// The pointer and the allocator of a box. It owns what the box did, and becomes a box again: it has no drop of its own.
+/// The pointer and the allocator of a box. It owns what the box did. It can't be dropped, but becomes a box again.
 pub struct Loose<T, A: Allocator> {
     /// Where the value is.
     pub at: *mut T,

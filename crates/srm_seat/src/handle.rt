@@ -8,8 +8,8 @@ ghost use Rattle.srm_seat.specs.contracts.seat.Seat.{the_row as seat_row};
 ghost use Rattle.srm_seat.specs.Seats.{SeatContent};
 ghost use Rattle.srm_handle.specs.Held.{held};
 
-use srm_handle::Loose;
 use crate::seat::Seat;
+use srm_handle::Loose;
 use std::alloc::Global;
 use std::marker::Model;
 use std::ptr::null_mut;

@@ -26,7 +26,7 @@ class Guard:
         self._at = at
 
     @classmethod
-    def of(cls, at: ctypes.c_void_p) -> "Guard":
+    def _of(cls, at: ctypes.c_void_p) -> "Guard":
         """The guard that the library made at a pointer, which belongs to it then."""
         guard = cls.__new__(cls)
         guard._at = at

@@ -92,7 +92,7 @@ class Room:
         """The guard of the member at a place, by the room's key. Its counters begin at `start`, as of a Guard."""
         at = ctypes.c_void_p()
         check(library.srm_room_guard(at, self._room, _place(me), start_of(start)))
-        return Guard.of(at)
+        return Guard._of(at)
 
 
 def _place(place: int) -> int:
