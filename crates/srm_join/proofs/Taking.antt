@@ -1,11 +1,10 @@
 -- An agent takes what a room has for its members.
-use Rattle.std.proofs.Common.{◌≡◌, ℕ, ◌<◌, ◌≤◌, List, [], ◌∷◌, length, map, suc, refl, ap, sym, ◌∙◌, arith}
-use Rattle.std.specs.Prelude.{Option, option_map, slice_get}
+use Rattle.std.proofs.Common.{◌≡◌, ℕ, List, [], ◌∷◌, length, map, suc, refl, ap, sym, ◌∙◌}
+use Rattle.std.specs.Prelude.{option_map, slice_get}
 use Rattle.std.proofs.lemmas.Option.{slice_get-map}
-use Rattle.srm_entries.specs.Configs.{IsConfig}
-use Rattle.srm_room.specs.Rooms.{Content, IsRoom, Person, person}
+use Rattle.srm_room.specs.Rooms.{Person, person}
 use Rattle.srm_room.specs.declared.room_member.RoomMember.{RoomMember}
-use Rattle.srm_join.specs.Joining.{TakesSettings, config_in}
+use Rattle.srm_join.specs.Joining.{TakesSettings}
 
 pub people_count : (ms : List RoomMember) → length (map person ms) ≡ length ms
 people_count [] = refl

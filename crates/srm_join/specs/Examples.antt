@@ -1,5 +1,5 @@
 -- The definitions at worked examples.
-use Rattle.std.specs.Prelude.{◌≡◌, ◌∷◌, [], List, ℕ, codes, replicate, Ok, Err, refl}
+use Rattle.std.specs.Prelude.{◌≡◌, ◌∷◌, [], codes, replicate, refl}
 use Rattle.std.proofs.Common.{arith}
 use Rattle.srm_guard.specs.Seals.{SealView}
 use Rattle.srm_room.specs.Rooms.{Content, person_of}

@@ -1,5 +1,5 @@
 -- What a room has for one of its members.
-use Rattle.std.specs.Prelude.{◌≡◌, ◌<◌, ◌≤◌, ℕ, List, length, option_map, slice_get, Option, Result, Ok, Err}
+use Rattle.std.specs.Prelude.{◌<◌, ◌≤◌, ℕ, List, length, option_map, slice_get, Option, Result, Ok, Err}
 use Rattle.srm_entries.specs.Configs.{Config, IsConfig, config_with}
 use Rattle.srm_entries.specs.declared.settings.Settings.{Settings}
 use Rattle.srm_guard.specs.Seals.{SealView, IsNewSeal}
