@@ -1,4 +1,5 @@
-"""Members of one room by the examples `node` and one `srm node` on loopback, over a relay that loses a tenth: all take the same strokes, and the program's record is honest.
+"""Members of one room by the examples `node` and one `srm node` on loopback, over a relay that loses a tenth: all take the same strokes, and an audit of the program's record
+finds nothing wrong: it is whole, and of a run of these members that may have been.
 
 nodes.py SRM NODE..: the program, and the command of each other member."""
 
@@ -66,10 +67,10 @@ def of_srm(srm, me, room, key, addresses, record):
     return [srm, "node", "--session", str(SESSION), "--me", str(me), "--waits", "2,2,1,1", *words, "--key", str(file), *staying, *addresses]
 
 
-def audited(srm, record):
-    """What is wrong with the program's record, by `srm audit`; nothing if it is honest."""
+def audited(srm, record, count):
+    """What is wrong with the program's record, by `srm audit`. The others have none, so a whole and honest one alone is undecided, with status 7."""
     ran = subprocess.run([srm, "audit", str(record)], capture_output=True, text=True, check=False)
-    if ran.returncode or not ran.stdout.startswith("honest"):
+    if ran.returncode != 7 or not ran.stdout.startswith(f"undecided: session {SESSION}, 1 of {count} records, 0 of them cut\n"):
         return [f"srm audit: status {ran.returncode}: {ran.stdout}{ran.stderr}"]
     return []
 
@@ -143,8 +144,8 @@ def run(folder, srm, *nodes):
     came, lost = sum(relay.came for relay in relays), sum(relay.lost for relay in relays)
     if not lost:
         wrong.append("nothing was lost")
-    wrong += audited(srm, record)
-    print("\n".join(wrong) or f"{count * STROKES} strokes, each taken by all {count}, with {lost} of {came} datagrams lost; an honest record")
+    wrong += audited(srm, record, count)
+    print("\n".join(wrong) or f"{count * STROKES} strokes, each taken by all {count}, with {lost} of {came} datagrams lost; an audit finds nothing wrong")
     return len(wrong) > 0
 
 

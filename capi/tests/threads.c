@@ -36,7 +36,7 @@ static void *end(void *data)
 {
     struct pair *pair = data;
     int sent = 0;
-    for (uint64_t now = 0; now < 3000000;) {
+    for (uint64_t now = 0; now < 10000000;) {
         for (int from = 0; from < 2; from++) {
             uint8_t room[SRM_DATAGRAM_MAX], sealed[SRM_SEALED_MAX];
             size_t length;

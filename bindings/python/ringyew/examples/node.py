@@ -11,6 +11,7 @@ import pathlib
 import socket
 import sys
 import time
+from typing import cast
 
 from ringyew import BODY_MAX, FIRST_PAGE, SLOTS, Agent, Draw, DroppedError, FaultError, Guard, Left, MemberError, Message, Open, Room, State
 
@@ -43,8 +44,7 @@ class Member(asyncio.DatagramProtocol):
         self.gone = asyncio.Event()
 
     def connection_made(self, transport: asyncio.BaseTransport) -> None:
-        assert isinstance(transport, asyncio.DatagramTransport)
-        self.udp = transport
+        self.udp = cast(asyncio.DatagramTransport, transport)  # as create_datagram_endpoint promises
         self.turn()
 
     def datagram_received(self, data: bytes, addr: object) -> None:
