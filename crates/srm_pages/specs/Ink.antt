@@ -42,6 +42,17 @@ SentIs pen sent received held = sent ≡ strokes_of pen received ++ strokes_of p
 pub record KnowsPart (v : InkView) (held : List Stroke) : Type 0 where
   pub sent : SentIs v.pen v.sent v.received held
 
+-- what the producer sent is its part of what was received
+abbrev pub ReceivedAll : InkView → Type 0
+ReceivedAll v = strokes_of v.pen v.received ≡ v.sent
+
+-- both are of the reader, and of the same producer, which sent the same
+pub record HasSameParts (old new : InkView) : Type 0 where
+  pub reads : new.reads ≡ old.reads
+  pub writes : new.writes ≡ old.writes
+  pub pen : new.pen ≡ old.pen
+  pub sent : new.sent ≡ old.sent
+
 -- A producer has what it sent, which is its part of what was received and then of what the queue holds. The reader has what was received
 pub record FitsInk (seat : ℕ → ℕ) (made : ℕ) (received items : List Stroke) (id : ℕ) (v : InkView) : Type 0 where
   pub pen : v.writes ≡ true → (seat v.pen ≡ id) × (v.pen < made) × (v.sent ≡ strokes_of v.pen (received ++ items))

@@ -64,15 +64,6 @@ impl Split<InkView> for Beside {
     ghost right = { pen_of };
 }
 
-/// What a joined pass shows: what the producer sent is its part of what was received, and then of what the queue holds.
-pub struct PartOfPen;
-
-impl Lesson<Stroke, InkView> for PartOfPen {
-    ghost use Rattle.srm_pages.specs.Ink.{KnowsPart};
-
-    ghost fact = { KnowsPart };
-}
-
 /// What a push does to its pass: the stroke stands behind those sent before.
 pub struct Writing;
 
@@ -97,6 +88,21 @@ impl Outcome<Stroke, InkView> for Reading {
 
 impl Lesson<Stroke, InkView> for Reading {
     ghost fact = { λ v items. Unit {0} };
+}
+
+/// What a pop does with a producer's pass beside the reader's. Where it finds none, what the producer sent is its part of what was received, and of nothing else.
+pub struct Emptied;
+
+impl Outcome<Stroke, InkView> for Emptied {
+    ghost use Rattle.srm_pages.specs.Ink.{ReaderReceives};
+
+    ghost then = { ReaderReceives };
+}
+
+impl Lesson<Stroke, InkView> for Emptied {
+    ghost use Rattle.srm_pages.specs.Ink.{KnowsPart};
+
+    ghost fact = { KnowsPart };
 }
 
 pub(crate) type StrokeQueue = RuledArrayQueue<Stroke, InkView, WellRule>;

@@ -1,12 +1,12 @@
 //! The node's end of the stroke queue, which receives.
 
-ghost use Rattle.std.specs.Prelude.{◌≡◌, ◌+◌, [], ◌∷◌, ◌++◌, true, List, MatchOption};
-ghost use Rattle.srm_pages.specs.declared.stroke.Stroke.{Stroke};
+ghost use Rattle.std.specs.Prelude.{◌≡◌, ◌+◌, [], ◌∷◌, ◌++◌, true, MatchOption};
+ghost use Rattle.std.specs.Bool.{OnTrue};
 ghost use Rattle.srm_pages.specs.Ends.{is_drained, looked_at};
-ghost use Rattle.srm_pages.specs.Ink.{KnowsPart, SentIs};
-ghost use Rattle.crossbeam_queue.specs.Passes.{view as knows, IsPassOf};
+ghost use Rattle.srm_pages.specs.Ink.{HasSameParts, ReceivedAll, strokes_of};
+ghost use Rattle.crossbeam_queue.specs.Passes.{view as knows, IsPassOf, IsSamePass};
 
-use crate::ink::{Beside, Ink, InkPass, PartOfPen, Reading, StrokeQueue};
+use crate::ink::{Beside, Emptied, Ink, InkPass, Reading, StrokeQueue};
 use crate::pen::Inked;
 use crate::stroke::Stroke;
 use std::alloc::Global;
@@ -55,23 +55,23 @@ impl Well {
         front
     }
 
-    /// Compares a finished producer of this queue with what was received, and returns the producer. What it sent is its part of what was
-    /// received, and then of what the queue holds: so what was received of it is a prefix of what it sent, in order, with nothing lost or
-    /// doubled.
+    /// Compares a finished producer of this queue with what was received. Returns the producer, and whether each stroke that it sent was received, once and in order. It
+    /// was unless the queue still holds a stroke, of any producer, which is dropped then: what a producer sent is its part of what was received, and then of what the
+    /// queue holds. Join the producers once all of them are done.
     ///
-    /// It neither waits nor takes memory, and changes nothing.
+    /// It takes no memory. Like [`next`](Well::next) it waits for a producer that is in the middle of a send.
     #[tactic(auto, using(crate::proofs::InkSteps::joins, crate::proofs::InkSteps::parts))]
-    pub fn join_pen(&mut self, inked: Inked) -> Inked
+    pub fn join_pen<R: Wait>(&mut self, rt: &R, inked: Inked) -> (Inked, bool)
         requires { inked.well ≡ self.old.well }
-        ensures same { self.new ≡ self.old }
-        ensures pen { result ≡ inked }
-        ensures part { (held : List Stroke) × SentIs result.number result.sent self.new.received held }
+        ensures pen { result.0 ≡ inked }
+        ensures same { OnTrue result.1 (self.new ≡ self.old) }
+        ensures all { OnTrue result.1 (strokes_of inked.number self.old.received ≡ inked.sent) }
     {
         let Inked { pass, number } = inked;
         self.ink.queue.absorb::<Beside>(&mut self.pass, pass);
-        learn_part(&self.ink.queue, &mut self.pass);
+        let is_empty = is_empty(rt, &self.ink.queue, &mut self.pass);
         let pass = self.ink.queue.another::<Beside>(&mut self.pass);
-        Inked { pass, number }
+        (Inked { pass, number }, is_empty)
     }
 
     /// Returns whether all producers have said that they are done. It notes this look for [`is_drained`](Well::is_drained). Costs one load.
@@ -110,13 +110,14 @@ fn next_count<R: Wait>(rt: &R, count: u64) -> u64
     }
 }
 
-// Shows the part of the producer whose pass is joined to the reader's.
-#[tactic(auto, using(crate::proofs::InkSteps::learns_part))]
-fn learn_part(queue: &StrokeQueue, pass: &mut InkPass)
+// Returns whether the queue is empty: then all was received that the producer sent whose pass is joined to the reader's. Else its front stroke is dropped.
+#[tactic(auto, using(crate::proofs::InkSteps::reads))]
+fn is_empty<R: Wait>(rt: &R, queue: &StrokeQueue, pass: &mut InkPass) -> bool
     requires pass { IsPassOf queue.now pass.old }
     requires both { ((knows pass.old).reads ≡ true) × ((knows pass.old).writes ≡ true) }
-    ensures same { IsPassOf queue.now pass.new × (pass.new.table_id ≡ pass.old.table_id) × (knows pass.new ≡ knows pass.old) }
-    ensures part { (held : List Stroke) × KnowsPart (knows pass.new) held }
+    ensures same { IsSamePass pass.old pass.new }
+    ensures keeps { HasSameParts (knows pass.old) (knows pass.new) }
+    ensures all { OnTrue result ((knows pass.new ≡ knows pass.old) × ReceivedAll (knows pass.old)) }
 {
-    queue.learn_as::<PartOfPen>(pass);
+    queue.pop_as::<Emptied, R>(rt, pass).is_none()
 }
