@@ -2,7 +2,7 @@
 //!
 //! ```
 //! // The past of a recorder or a node, whose calls go to a file.
-//! let past = Written::new(alloc, Some(file), beginning, Forgotten::new());
+//! let past = Written::new(alloc, Some(file), beginning, Forgotten::new(), None);
 //! // Later, from the bytes of the file:
 //! let record = read_record(alloc, bytes)?;
 //! let replayed = retell(alloc, &record)?;
@@ -14,11 +14,12 @@
 //!
 //! Calls that did nothing are left out: what was refused, ignored or noise, ticks at which nothing was due, and gives that found nothing.
 //!
-//! If the file fails, [`Written`] goes on without it, and says so at its end.
+//! If the file fails, [`Written`] goes on without it, notes the cause at once in its [`RecordFailure`], and says so at its end.
 #![tactic(auto)]
 
 mod framing;
 mod laws;
+mod record_failure;
 mod record_file;
 mod replaying;
 mod taking;
@@ -26,6 +27,7 @@ mod telling;
 mod written;
 
 pub use laws::records_tell;
+pub use record_failure::{RecordFailure, Unwritten};
 pub use replaying::{Replayed, retell};
 pub use telling::acts;
 pub use written::{Ended, Written};

@@ -13,15 +13,18 @@ ghost use Rattle.srm_output.specs.Writing.{AppendsFront};
 ghost use Rattle.srm_record.specs.Writing.{HasText, HasRecord, Stays, Adds, GoesOn, Writes, WritesIf, Notes, call_text, sends};
 
 use crate::framing::{put_call, put_end};
+use crate::record_failure::RecordFailure;
 use crate::telling::last_after;
 use srm_entries::Entry;
 use srm_frames::{Beginning, beginning_bytes, put_took};
 use srm_names::PageMsg;
 use srm_output::write_bytes;
 use std::alloc::Global;
-use std::io::Write;
+use std::io;
+use std::io::{ErrorKind, Write};
 use std::marker::Model;
 use std::snapshot::Snapshot;
+use std::sync::Arc;
 
 /// Fewer bytes than these wait between calls.
 pub const MOST_WAITING: usize = 65_536;
@@ -41,6 +44,8 @@ pub struct RecordFile<F: Write + Drop> {
     last: u64,
     written_at: u64,
     failed: bool,
+    // Where the first cause is noted, if anywhere.
+    failure: Option<Arc<RecordFailure, Global>>,
 }
 
 impl<F: Write + Drop> Model for RecordFile<F> {
@@ -52,27 +57,41 @@ impl<F: Write + Drop> Model for RecordFile<F> {
 }
 
 impl<F: Write + Drop> RecordFile<F> {
-    /// The file of a member that did nothing yet. It has what the record begins with, unless it failed or there was no memory for that.
-    pub fn new(alloc: Global, file: F, beginning: Beginning) -> RecordFile<F>
+    /// The file of a member that did nothing yet. It has what the record begins with, unless it failed or there was no memory for that. Why nothing more is written is
+    /// noted in `failure`.
+    pub fn new(
+        alloc: Global,
+        file: F,
+        beginning: Beginning,
+        failure: Option<Arc<RecordFailure, Global>>,
+    ) -> RecordFile<F>
         ensures beginning { result.beginning ≡ beginning }
         ensures first { result.first ≡ F.contents file }
         ensures record { HasRecord result [] }
     {
-        let mut made = RecordFile::unwritten(alloc, file, beginning);
+        let mut made = RecordFile::unwritten(alloc, file, beginning, failure);
         made.write();
         made
     }
 
     // The same while all that the record begins with waits.
-    fn unwritten(alloc: Global, file: F, beginning: Beginning) -> RecordFile<F>
+    fn unwritten(
+        alloc: Global,
+        file: F,
+        beginning: Beginning,
+        failure: Option<Arc<RecordFailure, Global>>,
+    ) -> RecordFile<F>
         ensures beginning { result.beginning ≡ beginning }
         ensures first { result.first ≡ F.contents file }
         ensures last { result.last ≡ beginning.made }
         ensures text { HasText result (beginning_text beginning) }
     {
         match beginning_bytes(alloc, &beginning) {
-            Ok(waiting) => RecordFile::with(alloc, file, beginning, waiting, false),
-            Err(_) => RecordFile::with(alloc, file, beginning, Vec::new(alloc), true),
+            Ok(waiting) => RecordFile::with(alloc, file, beginning, waiting, false, failure),
+            Err(_) => {
+                note_in(&failure, &ErrorKind::OutOfMemory.into());
+                RecordFile::with(alloc, file, beginning, Vec::new(alloc), true, failure)
+            }
         }
     }
 
@@ -82,6 +101,7 @@ impl<F: Write + Drop> RecordFile<F> {
         beginning: Beginning,
         waiting: Vec<u8>,
         failed: bool,
+        failure: Option<Arc<RecordFailure, Global>>,
     ) -> RecordFile<F>
         ensures { result ≡ record { beginning = beginning; first = F.contents file; now = F.contents file; waiting = waiting.items; last = beginning.made; failed = failed } }
     {
@@ -96,6 +116,7 @@ impl<F: Write + Drop> RecordFile<F> {
             last: made,
             written_at: made,
             failed,
+            failure,
         }
     }
 
@@ -126,7 +147,7 @@ impl<F: Write + Drop> RecordFile<F> {
         let session = self.beginning.config.session();
         match put_call(self.alloc, &mut self.waiting, session, entry) {
             Ok(()) => {}
-            Err(_) => self.failed = true,
+            Err(_) => self.fail(&ErrorKind::OutOfMemory.into()),
         }
     }
 
@@ -161,7 +182,23 @@ impl<F: Write + Drop> RecordFile<F> {
         }
         match write_bytes(&mut self.file, self.waiting.as_slice()) {
             Ok(()) => self.waiting.clear(),
-            Err(_) => self.failed = true,
+            Err(error) => self.fail(&error),
+        }
+    }
+
+    // Nothing more is written, and it is noted why.
+    fn fail(&mut self, error: &io::Error)
+        ensures { self.new ≡ record self.old { failed = true } }
+    {
+        note_in(&self.failure, error);
+        self.failed = true;
+    }
+
+    /// Returns where it is noted why nothing more is written, if anywhere.
+    pub fn share_failure(&self) -> Option<Arc<RecordFailure, Global>> {
+        match &self.failure {
+            Some(failure) => Arc::try_clone(failure).ok(),
+            None => None,
         }
     }
 
@@ -207,7 +244,7 @@ impl<F: Write + Drop> RecordFile<F> {
         }
         match put_took(&mut self.waiting, self.last, slot, message) {
             Ok(()) => {}
-            Err(_) => self.failed = true,
+            Err(_) => self.fail(&ErrorKind::OutOfMemory.into()),
         }
     }
 
@@ -229,7 +266,14 @@ impl<F: Write + Drop> RecordFile<F> {
         }
         match put_end(&mut self.waiting, self.last) {
             Ok(()) => {}
-            Err(_) => self.failed = true,
+            Err(_) => self.fail(&ErrorKind::OutOfMemory.into()),
         }
+    }
+}
+
+// Notes why nothing more is written, if that is noted anywhere.
+fn note_in(failure: &Option<Arc<RecordFailure, Global>>, error: &io::Error) {
+    if let Some(failure) = failure {
+        failure.note(error);
     }
 }

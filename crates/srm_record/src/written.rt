@@ -9,6 +9,7 @@ ghost use Rattle.srm_output.specs.Writing.{AppendsFront};
 ghost use Rattle.srm_record.specs.Writing.{IsWritten, NotesIn, Stays};
 ghost use Rattle.srm_record.specs.Begun.{IsRecorded, begins_in, begun_with};
 
+use crate::record_failure::RecordFailure;
 use crate::record_file::RecordFile;
 use srm_agent::Agent;
 use srm_entries::Entry;
@@ -20,6 +21,7 @@ use srm_world::Past;
 use std::alloc::{AllocError, Global};
 use std::io::Write;
 use std::marker::Model;
+use std::sync::Arc;
 
 /// The history of a member, kept in any way, whose calls are written to a file, if there is one.
 ///
@@ -50,13 +52,21 @@ pub struct Ended<F: Write + Drop, P: Past<Entry> + Drop> {
     pub whole: bool,
     pub file: Option<F>,
     pub past: P,
+    /// Where it is noted why nothing more was written, if anywhere.
+    pub failure: Option<Arc<RecordFailure, Global>>,
 }
 
 impl<F: Write + Drop, P: Past<Entry> + Drop> Written<F, P> {
     /// Makes the history of a member that begins so and did nothing yet. The file, if there is one, gets the member's record from now on. It never fails: [`Ended::whole`] says whether
-    /// all was written.
+    /// all was written, and `failure`, at once, why nothing more is.
     #[tactic(auto, using(crate::proofs::Filing::written_at_first, crate::proofs::Beginning::begins_so))]
-    pub fn new(alloc: Global, file: Option<F>, beginning: Beginning, past: P) -> Written<F, P>
+    pub fn new(
+        alloc: Global,
+        file: Option<F>,
+        beginning: Beginning,
+        past: P,
+        failure: Option<Arc<RecordFailure, Global>>,
+    ) -> Written<F, P>
         requires { P.appended past ≡ [] }
         ensures past { result.past ≡ past }
         ensures entries { result.entries ≡ [] }
@@ -66,7 +76,7 @@ impl<F: Write + Drop, P: Past<Entry> + Drop> Written<F, P> {
         match file {
             Some(file) => Written {
                 past,
-                file: Some(RecordFile::new(alloc, file, beginning)),
+                file: Some(RecordFile::new(alloc, file, beginning, failure)),
             },
             None => Written { past, file: None },
         }
@@ -92,17 +102,20 @@ impl<F: Write + Drop, P: Past<Entry> + Drop> Written<F, P> {
         let Written { past, file } = self;
         match file {
             Some(file) => {
+                let failure = file.share_failure();
                 let (whole, file) = file.end(taken);
                 Ended {
                     whole,
                     file: Some(file),
                     past,
+                    failure,
                 }
             }
             None => Ended {
                 whole: true,
                 file: None,
                 past,
+                failure: None,
             },
         }
     }

@@ -1,9 +1,6 @@
 use Rattle.std.proofs.Common.{refl}
-use Rattle.srm_record.proofs.Filing.{puts, breaks}
+use Rattle.srm_record.proofs.Filing.{puts}
 use Rattle.srm_record.proofs.record_file.RecordFile.put_take.Goals as goal
 
 pub returns-in-Ok : goal.returns-in-Ok
 returns-in-Ok g c = rw (← c.self.view_is) (puts _ _ _ refl refl refl refl refl c.in-Ok.ensures)
-
-pub returns-in-Err : goal.returns-in-Err
-returns-in-Err g c = rw (← c.self.view_is) (breaks _ _ _ refl refl refl refl refl)
