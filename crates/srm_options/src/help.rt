@@ -149,12 +149,13 @@ pub const BOARD: &str =
 pub const BOARD_MORE: &str = "\
 It prints where the page is on standard error, as `srm: draw at
 http://127.0.0.1:8080/TOKEN/`, and runs until somebody leaves there, or until the
-end of input at a terminal (Ctrl-D). At its end standard error tells how many
-datagrams the network refused to take, and how many came and were dropped, by
-cause.
+end of input at a terminal (Ctrl-D). Standard error tells once that the member was
+in the session before under its number, why the first datagrams were dropped and why
+its record can't be written; and at its end how many datagrams the network refused
+to take, and how many came and were dropped, by cause.
 
 Status: 0; 1 for a key that can't be used, or for a record that can't be made or
 written whole; 2 for a wrong command line; 3 where the page can't be served, the
 address can't be bound or the socket fails; 4 for want of memory, or where all turns
-were spent.
+were spent; 5 where all went well but the member was in the session before.
 ";
