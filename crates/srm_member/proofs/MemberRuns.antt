@@ -6,7 +6,7 @@ use Rattle.srm_udp.specs.declared.first_failure.WireFailure.{WireFailure}
 use Rattle.srm_script.specs.declared.fault.ScriptFault.TheVariants.{StandardInput, TooLong, BadLine, Output, Memory}
 use Rattle.srm_script.specs.declared.status.TheConstants.{WIRE_FAILED, RAN_OUT}
 use Rattle.srm_member.specs.declared.fault.MemberFault.{MemberFault}
-use Rattle.srm_member.specs.declared.fault.MemberFault.TheVariants.{Script, Wire, Binding, Call, Turns, Key, Record}
+use Rattle.srm_member.specs.declared.fault.MemberFault.TheVariants.{Script, Wire, Binding, Call, Turns, Key, Record, Unrecorded}
 use Rattle.srm_member.specs.Statuses.{fault_with_call, status_of_member}
 use Rattle.srm_member.specs.Lines.{lines_of, dealt_of}
 use Rattle.srm_pages.specs.Ends.{TapView, PenView}
@@ -80,6 +80,7 @@ status_of_some (Call call) = lit≤ tt
 status_of_some Turns = lit≤ tt
 status_of_some (Key fault) = lit≤ tt
 status_of_some Record = lit≤ tt
+status_of_some (Unrecorded cause) = lit≤ tt
 
 -- and none a greater one than 4
 pub status_of_most : (f : MemberFault) → status_of_member f ≤ 4
@@ -94,6 +95,7 @@ status_of_most (Call call) = lit≤ tt
 status_of_most Turns = lit≤ tt
 status_of_most (Key fault) = lit≤ tt
 status_of_most Record = lit≤ tt
+status_of_most (Unrecorded cause) = lit≤ tt
 
 pub not_0 : (f : MemberFault) (status : ℕ) (P : Type 0) → status ≡ status_of_member f → status ≡ 0 → P
 not_0 f status P is none = absurd (omega (arith, status_of_some f, is, none))

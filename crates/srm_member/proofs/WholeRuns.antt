@@ -28,7 +28,7 @@ use Rattle.srm_node.specs.Working.{SeesEach, is_stopped}
 use Rattle.srm_node.specs.Hosting.{Kinds, WorkedAs, WorkedEach, HostsWith, SameWell}
 use Rattle.srm_member.specs.Stations.{AreNewTaps, HasNewEnds}
 use Rattle.srm_member.specs.Statuses.{fault_of}
-use Rattle.srm_member.specs.Strokes.{PenAndBodies, stroke_of, PenSentPrefix, PensDrew}
+use Rattle.srm_member.specs.Strokes.{PenAndBodies, stroke_of, PenSent, PensDrew}
 use Rattle.srm_member.specs.TakenText.{taken_text}
 use Rattle.srm_member.specs.WholeRuns.{TakePrefixes, IsReceivedOf, SawEach, IsWholeHost, IsWholeRun}
 use Rattle.srm_member.proofs.WholeTakes.{whole_take, all_at}
@@ -69,25 +69,25 @@ carried false gave put is = ([], append-nil put ∙ sym is)
 
 -- WHAT WAS DRAWN
 
-drew_at : (pens : List PenView) (dealt : List (List (List ℕ))) (inked : List PenView) (k : ℕ) (p : PenView) (bodies : List (List ℕ)) → PensDrew (zip pens dealt) inked → slice_get pens k ≡ Some p → slice_get dealt k ≡ Some bodies → (i : PenView) × (slice_get inked k ≡ Some i) × PenSentPrefix bodies p i
+drew_at : (pens : List PenView) (dealt : List (List (List ℕ))) (inked : List PenView) (k : ℕ) (p : PenView) (bodies : List (List ℕ)) → PensDrew true (zip pens dealt) inked → slice_get pens k ≡ Some p → slice_get dealt k ≡ Some bodies → (i : PenView) × (slice_get inked k ≡ Some i) × PenSent true bodies p i
 drew_at [] dealt inked k p bodies h at_p at_b = cc
 drew_at (q ∷ pens) [] inked k p bodies h at_p at_b = cc
 drew_at (q ∷ pens) (b ∷ dealt) [] k p bodies h at_p at_b = absurd h
-drew_at (q ∷ pens) (b ∷ dealt) (i ∷ inked) zero p bodies h at_p at_b = (i, refl, subst (λ x. PenSentPrefix bodies x i) (same_Some q p at_p) (subst (λ x. PenSentPrefix x q i) (same_Some b bodies at_b) h.0))
+drew_at (q ∷ pens) (b ∷ dealt) (i ∷ inked) zero p bodies h at_p at_b = (i, refl, subst (λ x. PenSent true bodies x i) (same_Some q p at_p) (subst (λ x. PenSent true x q i) (same_Some b bodies at_b) h.0))
 drew_at (q ∷ pens) (b ∷ dealt) (i ∷ inked) (suc k) p bodies h at_p at_b = drew_at pens dealt inked k p bodies h.1 at_p at_b
 
-wells : (v : WellView) (pens : List PenView) (dealt : List (List (List ℕ))) (inked : List PenView) → ((k : ℕ) (p : PenView) → slice_get pens k ≡ Some p → p.well ≡ v.well) → PensDrew (zip pens dealt) inked → AllByRecursion (λ (p : PenView). p.well ≡ v.well) inked
-wells v [] dealt [] all h = tt
-wells v [] dealt (i ∷ inked) all h = absurd h
-wells v (q ∷ pens) [] [] all h = tt
-wells v (q ∷ pens) [] (i ∷ inked) all h = absurd h
-wells v (q ∷ pens) (b ∷ dealt) [] all h = absurd h
-wells v (q ∷ pens) (b ∷ dealt) (i ∷ inked) all h = (ap (λ (x : PenView). x.well) h.0.1.is ∙ all zero q refl, wells v pens dealt inked (λ k p at. all (suc k) p at) h.1)
+wells : (every : Bool) (v : WellView) (pens : List PenView) (dealt : List (List (List ℕ))) (inked : List PenView) → ((k : ℕ) (p : PenView) → slice_get pens k ≡ Some p → p.well ≡ v.well) → PensDrew every (zip pens dealt) inked → AllByRecursion (λ (p : PenView). p.well ≡ v.well) inked
+wells every v [] dealt [] all h = tt
+wells every v [] dealt (i ∷ inked) all h = absurd h
+wells every v (q ∷ pens) [] [] all h = tt
+wells every v (q ∷ pens) [] (i ∷ inked) all h = absurd h
+wells every v (q ∷ pens) (b ∷ dealt) [] all h = absurd h
+wells every v (q ∷ pens) (b ∷ dealt) (i ∷ inked) all h = (ap (λ (x : PenView). x.well) h.0.2.is ∙ all zero q refl, wells every v pens dealt inked (λ k p at. all (suc k) p at) h.1)
 
 -- the producers of a new station are those of the stroke queue that its node returns
-pub pens_of_well : {X C : Type 0} (node : NodeView X C) (taps : List TapView) (pens inked : List PenView) (dealt : List (List (List ℕ))) (well : WellView) → HasNewEnds node taps pens → SameWell node.well well → PensDrew (zip pens dealt) inked → AllByRecursion (λ (p : PenView). p.well ≡ well.well) inked
-pens_of_well node taps pens inked dealt well ends same drew =
-    wells well pens dealt inked (λ k p at. ap (λ (x : PenView). x.well) (ends.new_pens k p at) ∙ sym (ap (λ (w : WellView). w.well) same)) drew
+pub pens_of_well : {X C : Type 0} (every : Bool) (node : NodeView X C) (taps : List TapView) (pens inked : List PenView) (dealt : List (List (List ℕ))) (well : WellView) → HasNewEnds node taps pens → SameWell node.well well → PensDrew every (zip pens dealt) inked → AllByRecursion (λ (p : PenView). p.well ≡ well.well) inked
+pens_of_well every node taps pens inked dealt well ends same drew =
+    wells every well pens dealt inked (λ k p at. ap (λ (x : PenView). x.well) (ends.new_pens k p at) ∙ sym (ap (λ (w : WellView). w.well) same)) drew
 
 pub map_prefix : {X Y : Type 0} (f : X → Y) (xs ys : List X) → IsPrefix xs ys → IsPrefix (map f xs) (map f ys)
 map_prefix f xs ys (rest, is) = (map f rest, sym (map-append f xs rest) ∙ ap (map f) is)
@@ -116,14 +116,14 @@ whole_at {P} {L} calls kinds turns node taps pens sinks left h ends (x, well_is,
     whole_take ms (given x.last.journal.entries slot) (takes_at calls kinds turns node taps pens sinks left h ends (x, well_is, control_is) takes slot ms at) (x.keeps.lawful.gives.feeds slot)
     (ap (list_any is_close) (sym list) ∙ all_at (λ (w : Worked L). list_any is_close (kinds.entries w.list)) h.worked.items slot w closed at_w)
 
-draws_at : {X C : Type 0} (node : NodeView X C) (taps : List TapView) (pens inked : List PenView) (dealt : List (List (List ℕ))) (well : WellView) → HasNewEnds node taps pens → PensDrew (zip pens dealt) inked → AllByRecursion (IsReceivedOf well.received) inked
-    → (pen : ℕ) (bodies : List (List ℕ)) → pen < PENS → slice_get dealt pen ≡ Some bodies → IsPrefix (strokes_of pen well.received) (map (stroke_of pen) bodies)
+draws_at : {X C : Type 0} (node : NodeView X C) (taps : List TapView) (pens inked : List PenView) (dealt : List (List (List ℕ))) (well : WellView) → HasNewEnds node taps pens → PensDrew true (zip pens dealt) inked → AllByRecursion (IsReceivedOf well.received) inked
+    → (pen : ℕ) (bodies : List (List ℕ)) → pen < PENS → slice_get dealt pen ≡ Some bodies → strokes_of pen well.received ≡ map (stroke_of pen) bodies
 draws_at node taps pens inked dealt well ends drew parts pen bodies below at =
     let (p, at_p) = at_place pens pen (omega (arith, below, ends.count)) in
-    let (i, at_i, (left, sent)) = drew_at pens dealt inked pen p bodies drew at_p at in
+    let (i, at_i, (left, none, sent)) = drew_at pens dealt inked pen p bodies drew at_p at in
     let i_is : i ≡ record { number = pen; sent = map (stroke_of pen) sent.sent; well = node.well.well } = sent.is ∙ ap (λ (q : PenView). record q { sent = q.sent ++ map (stroke_of q.number) sent.sent }) (ends.new_pens pen p at_p) in
-    let part : IsPrefix (strokes_of pen well.received) (map (stroke_of pen) sent.sent) = subst (λ (q : PenView). IsPrefix (strokes_of q.number well.received) q.sent) i_is (by_place (IsReceivedOf well.received) inked pen i parts at_i) in
-    front_of_front (strokes_of pen well.received) (map (stroke_of pen) sent.sent) (map (stroke_of pen) bodies) part (map_prefix (stroke_of pen) sent.sent bodies (left, sym sent.split))
+    let whole : sent.sent ≡ bodies = sym (sent.split ∙ ap (λ more. sent.sent ++ more) (none refl) ∙ append-nil sent.sent) in
+    subst (λ (q : PenView). strokes_of q.number well.received ≡ q.sent) i_is (by_place (IsReceivedOf well.received) inked pen i parts at_i) ∙ ap (map (stroke_of pen)) whole
 
 -- the sink of each slot saw what its worker took
 pub saw_each : {L S : Type 0} (kinds : Kinds L S) (taps : List TapView) (sinks : List S) (ws : List (Worked L)) → AreNewTaps taps → WorkedEach kinds (zip taps sinks) ws → SawEach kinds.sees sinks (map (λ (w : Worked L). kinds.entries w.list) ws)
@@ -153,12 +153,12 @@ unfolding whole_host
 whole_host_ends {P} {L} calls kinds turns node taps pens sinks left h ends count (x, well_is, control_is) takes closed = (whole_host calls kinds turns node taps pens sinks left h ends count (x, well_is, control_is) takes closed, well_is, control_is, x.journal)
 
 pub whole_run : {P L S X C : Type 0} (calls : Calls X C) (kinds : Kinds L S) (turns : ℕ) (node : NodeView X C) (taps : List TapView) (pens inked : List PenView) (sinks : List S) (dealt : List (List (List ℕ))) (left : NodeEnds) (h : Hosted P L)
-    → HasNewEnds node taps pens → length sinks ≡ PAGES → HostsWith calls kinds node (zip taps sinks) turns left h → PensDrew (zip pens dealt) inked
+    → HasNewEnds node taps pens → length sinks ≡ PAGES → HostsWith calls kinds node (zip taps sinks) turns left h → PensDrew true (zip pens dealt) inked
     → TakePrefixes h.feeds.items (map (λ (w : Worked L). w.tap) h.worked.items) → list_all (λ (w : Worked L). list_any is_close (kinds.entries w.list)) h.worked.items ≡ true → AllByRecursion (IsReceivedOf left.well.received) inked → IsWholeRun calls turns dealt node (map (λ (w : Worked L). kinds.entries w.list) h.worked.items)
 unfolding whole_host
 whole_run {P} {L} calls kinds turns node taps pens inked sinks dealt left h ends count (x, well_is, control_is) drew takes closed parts = record {
   host = whole_host calls kinds turns node taps pens sinks left h ends count (x, well_is, control_is) takes closed;
-  draws = λ pen bodies below at. subst (λ (v : WellView). IsPrefix (strokes_of pen v.received) (map (stroke_of pen) bodies)) well_is (draws_at node taps pens inked dealt left.well ends drew parts pen bodies below at);
+  draws = λ pen bodies below at. subst (λ (v : WellView). strokes_of pen v.received ≡ map (stroke_of pen) bodies) well_is (draws_at node taps pens inked dealt left.well ends drew parts pen bodies below at);
 }
 
 -- where a run has no fault it came to its end
@@ -171,7 +171,7 @@ without_fault (Err Turns) false A none holds = cc
 
 -- and what was printed is what its workers took, by its own member
 pub printed_run : {P L S X C : Type 0} (calls : Calls X C) (kinds : Kinds L S) (turns : ℕ) (node : NodeView X C) (taps : List TapView) (pens inked : List PenView) (sinks : List S) (dealt : List (List (List ℕ))) (left : NodeEnds) (h : Hosted P L) (before after : Option (List ℕ)) (me : ℕ)
-    → HasNewEnds node taps pens → length sinks ≡ PAGES → HostsWith calls kinds node (zip taps sinks) turns left h → PensDrew (zip pens dealt) inked
+    → HasNewEnds node taps pens → length sinks ≡ PAGES → HostsWith calls kinds node (zip taps sinks) turns left h → PensDrew true (zip pens dealt) inked
     → TakePrefixes h.feeds.items (map (λ (w : Worked L). w.tap) h.worked.items) → list_all (λ (w : Worked L). list_any is_close (kinds.entries w.list)) h.worked.items ≡ true → AllByRecursion (IsReceivedOf left.well.received) inked → me ≡ h.history.journal.start.config.me
     → Appends before after (taken_text me (map (λ (w : Worked L). kinds.entries w.list) h.worked.items))
     → (whole : IsWholeRun calls turns dealt node (map (λ (w : Worked L). kinds.entries w.list) h.worked.items)) × Appends before after (taken_text whole.host.last.journal.start.config.me (map (λ (w : Worked L). kinds.entries w.list) h.worked.items))
@@ -183,7 +183,7 @@ printed_run {P} {L} calls kinds turns node taps pens inked sinks dealt left h be
 
 -- and the file of its record has all of it
 pub recorded_run : {P L S X C F : Type 0} (calls : Calls X C) (kinds : Kinds L S) (turns : ℕ) (node : NodeView X C) (taps : List TapView) (pens inked : List PenView) (sinks : List S) (dealt : List (List (List ℕ))) (left : NodeEnds) (h : Hosted P L) (before after : Option (List ℕ)) (me : ℕ)
-    (contents : F → Option (List ℕ)) (begins : Option RecordStart) (file : Option F) → HasNewEnds node taps pens → length sinks ≡ PAGES → HostsWith calls kinds node (zip taps sinks) turns left h → PensDrew (zip pens dealt) inked
+    (contents : F → Option (List ℕ)) (begins : Option RecordStart) (file : Option F) → HasNewEnds node taps pens → length sinks ≡ PAGES → HostsWith calls kinds node (zip taps sinks) turns left h → PensDrew true (zip pens dealt) inked
     → TakePrefixes h.feeds.items (map (λ (w : Worked L). w.tap) h.worked.items) → list_all (λ (w : Worked L). list_any is_close (kinds.entries w.list)) h.worked.items ≡ true → AllByRecursion (IsReceivedOf left.well.received) inked → me ≡ h.history.journal.start.config.me
     → Appends before after (taken_text me (map (λ (w : Worked L). kinds.entries w.list) h.worked.items)) → IsRecorded contents begins h.history.journal.entries (map (λ (w : Worked L). kinds.entries w.list) h.worked.items) file
     → (whole : IsWholeRun calls turns dealt node (map (λ (w : Worked L). kinds.entries w.list) h.worked.items)) × Appends before after (taken_text whole.host.last.journal.start.config.me (map (λ (w : Worked L). kinds.entries w.list) h.worked.items))
@@ -195,13 +195,18 @@ recorded_run {P} {L} calls kinds turns node taps pens inked sinks dealt left h b
   subst (λ (j : Journal). IsRecorded contents begins j.entries (map (λ (w : Worked L). kinds.entries w.list) h.worked.items) file) x.journal recorded,
 )
 
+-- what holds where a check went well
+pub where_so : (b : Bool) (P : Type 0) → b ≡ true → OnTrue b P → P
+where_so true P so holds = holds
+where_so false P so holds = cc
+
 started : {X : Type 0} (all : Bool) (r : Option X) (x : X) → (all ≡ false → r ≡ None) → r ≡ Some x → all ≡ true
 started true r x refused some = refl
 started false r x refused some = let none = refused refl in cc
 
--- where the node was hosted all producers were started, and each sent a prefix of its bodies
-pub pens_drew : {X : Type 0} (all : Bool) (r : Option X) (x : X) (before grown starts : List PenAndBodies) (inked : List PenView) → (all ≡ false → r ≡ None) → r ≡ Some x → before ≡ [] → OnTrue all (grown ≡ before ++ starts) → PensDrew grown inked → PensDrew starts inked
-pens_drew all r x before grown starts inked refused some none grew drew = subst (λ ss. PensDrew ss inked) (of all (started all r x refused some) grew ∙ ap (λ ss. ss ++ starts) none) drew
+-- where the node was hosted all producers were started, and each sent what is said of it
+pub pens_drew : {X : Type 0} (every all : Bool) (r : Option X) (x : X) (before grown starts : List PenAndBodies) (inked : List PenView) → (all ≡ false → r ≡ None) → r ≡ Some x → before ≡ [] → OnTrue all (grown ≡ before ++ starts) → PensDrew every grown inked → PensDrew every starts inked
+pens_drew every all r x before grown starts inked refused some none grew drew = subst (λ ss. PensDrew every ss inked) (of all (started all r x refused some) grew ∙ ap (λ ss. ss ++ starts) none) drew
   where
     of : (b : Bool) → b ≡ true → OnTrue b (grown ≡ before ++ starts) → grown ≡ before ++ starts
     of true is grew = grew

@@ -14,6 +14,7 @@ use Rattle.srm_node.specs.declared.working.WorkEnd.{WorkEnd}
 use Rattle.srm_node.specs.declared.working.WorkEnd.TheVariants as end
 use Rattle.srm_node.specs.declared.working.Worked.{Worked}
 use Rattle.srm_udp.specs.declared.first_failure.WireFailure.{WireFailure}
+use Rattle.srm_record.specs.declared.record_failure.Unwritten.{Unwritten}
 use Rattle.srm_options.specs.declared.reply.Reply.{Reply}
 use Rattle.srm_options.specs.declared.reply.Reply.TheVariants as reply
 use Rattle.srm_guarded.specs.declared.key_file.KeyFileFault.{KeyFileFault}
@@ -69,10 +70,15 @@ abbrev pub fault_with_call : Option WireFailure → MemberFault → MemberFault
 fault_with_call (Some call) fault.Wire = fault.Call call
 fault_with_call _ f = f
 
--- A run's fault is told with a call that failed, or as it is; of a whole run none is told.
+-- a record that isn't whole is told with its file and the cause, where they are known
+abbrev pub fault_with_cause : Option Unwritten → MemberFault → MemberFault
+fault_with_cause (Some cause) fault.Record = fault.Unrecorded cause
+fault_with_cause _ f = f
+
+-- A run's fault is told with a call that failed, or why its record isn't whole, or as it is; of a whole run none is told.
 abbrev pub IsToldOf : Option MemberFault → Option MemberFault → Type 0
 IsToldOf None told = told ≡ None
-IsToldOf (Some f) told = (call : Option WireFailure) × (told ≡ Some (fault_with_call call f))
+IsToldOf (Some f) told = (call : Option WireFailure) × (cause : Option Unwritten) × (told ≡ Some (fault_with_cause cause (fault_with_call call f)))
 
 -- Why a whole run isn't recorded, by whether its file has the whole record: out of memory for what its workers took, or the record.
 abbrev pub fault_of_record : {E : Type 0} → Result Bool E → Option MemberFault
@@ -102,6 +108,7 @@ status_of_member (fault.Call call) = WIRE_FAILED
 status_of_member fault.Turns = RAN_OUT
 status_of_member (fault.Key cause) = FAILED
 status_of_member fault.Record = FAILED
+status_of_member (fault.Unrecorded cause) = FAILED
 
 -- a whole run has status 0, and any other that of its fault
 abbrev pub IsStatus : ℕ → Type 0

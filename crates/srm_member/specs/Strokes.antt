@@ -1,5 +1,5 @@
 -- What a producer draws.
-use Rattle.std.specs.Prelude.{◌≡◌, ℕ, List, [], ◌∷◌, ◌++◌, map}
+use Rattle.std.specs.Prelude.{◌≡◌, ℕ, Bool, true, List, [], ◌∷◌, ◌++◌, map}
 use Rattle.std.specs.List.{zip}
 use Rattle.srm_names.specs.declared.page.Page.{Page}
 use Rattle.srm_names.specs.Names.{first_page}
@@ -21,9 +21,9 @@ pub record PenSentAllBut (bodies left : List (List ℕ)) (old new : PenView) : T
   pub split : bodies ≡ sent ++ left
   pub is : new ≡ record old { sent = old.sent ++ map (stroke_of old.number) sent }
 
--- the producer sent a prefix of these bodies
-abbrev pub PenSentPrefix : List (List ℕ) → PenView → PenView → Type 0
-PenSentPrefix bodies old new = (left : List (List ℕ)) × PenSentAllBut bodies left old new
+-- The producer sent a prefix of these bodies, and all of them where that is said.
+abbrev pub PenSent : Bool → List (List ℕ) → PenView → PenView → Type 0
+PenSent all bodies old new = (left : List (List ℕ)) × (all ≡ true → left ≡ []) × PenSentAllBut bodies left old new
 
 -- a producer, and the bodies that it is to draw
 abbrev pub PenAndBodies : Type 0
@@ -37,14 +37,14 @@ pen_and_bodies t = (t.handle.promise.0.value, t.handle.promise.1.value.items)
 abbrev pub pens_with : List PenView → List (List (List ℕ)) → List PenAndBodies
 pens_with pens dealt = zip pens dealt
 
--- each producer sent a prefix of its bodies
-abbrev pub PensDrew : List PenAndBodies → List PenView → Type 0
-PensDrew [] [] = Unit {0}
-PensDrew (s ∷ ss) (p ∷ ps) = PenSentPrefix s.1 s.0 p × PensDrew ss ps
-PensDrew _ _ = ⊥
+-- each producer sent a prefix of its bodies, and all of them where that is said
+abbrev pub PensDrew : Bool → List PenAndBodies → List PenView → Type 0
+PensDrew all [] [] = Unit {0}
+PensDrew all (s ∷ ss) (p ∷ ps) = PenSent all s.1 s.0 p × PensDrew all ss ps
+PensDrew all _ _ = ⊥
 
--- of all these some were joined, and the others not yet
-pub record JoinsPens (all : List PenAndBodies) (left : List PenThread) (inked : List PenView) : Type 0 where
+-- of these threads some were joined, and the others not yet
+pub record JoinsPens (all : Bool) (started : List PenAndBodies) (left : List PenThread) (inked : List PenView) : Type 0 where
   pub joined : List PenAndBodies
-  pub split : all ≡ joined ++ map pen_and_bodies left
-  pub each : PensDrew joined inked
+  pub split : started ≡ joined ++ map pen_and_bodies left
+  pub each : PensDrew all joined inked

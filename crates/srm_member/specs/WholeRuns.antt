@@ -17,9 +17,9 @@ use Rattle.srm_member.specs.Strokes.{stroke_of}
 abbrev pub TakePrefixes : List FeedView → List TapView → Type 0
 TakePrefixes feeds taps = (slot : ℕ) (f : FeedView) (t : TapView) → slice_get feeds slot ≡ Some f → slice_get taps slot ≡ Some t → IsPrefix t.taken f.put
 
--- what was received of a producer is a prefix of what it sent
+-- what was received of a producer is what it sent
 abbrev pub IsReceivedOf : List Stroke → PenView → Type 0
-IsReceivedOf received p = IsPrefix (strokes_of p.number received) p.sent
+IsReceivedOf received p = strokes_of p.number received ≡ p.sent
 
 -- The node ran to its end, and these are the lists of its workers by slot: each is what the journal gave in that slot, all of it.
 pub record IsWholeHost {X C : Type 0} (calls : Calls X C) (turns : ℕ) (node : NodeView X C) (took : List (List PageMsg)) : Type 0 where
@@ -33,8 +33,7 @@ pub record IsWholeHost {X C : Type 0} (calls : Calls X C) (turns : ℕ) (node : 
 abbrev pub SawEach : {S : Type 0} → (S → ℕ → PageMsg → Bool → S → Type 0) → List S → List (List PageMsg) → Type 0
 SawEach {S} Sees sinks took = (slot : ℕ) (s : S) (ms : List PageMsg) → slice_get sinks slot ≡ Some s → slice_get took slot ≡ Some ms → (last : S) × (stopped : Bool) × SeesEach Sees slot stopped ms s last
 
--- And its journal's draws are the strokes received and no others, as `keeps` says: of each producer, they are a prefix of the strokes that were dealt to it, in
--- order.
+-- And its journal's draws are the strokes received and no others, as `keeps` says: of each producer, the strokes that were dealt to it, all of them and in order.
 pub record IsWholeRun {X C : Type 0} (calls : Calls X C) (turns : ℕ) (dealt : List (List (List ℕ))) (node : NodeView X C) (took : List (List PageMsg)) : Type 0 where
   pub host : IsWholeHost calls turns node took
-  pub draws : (pen : ℕ) (bodies : List (List ℕ)) → pen < PENS → slice_get dealt pen ≡ Some bodies → IsPrefix (strokes_of pen host.last.well.received) (map (stroke_of pen) bodies)
+  pub draws : (pen : ℕ) (bodies : List (List ℕ)) → pen < PENS → slice_get dealt pen ≡ Some bodies → strokes_of pen host.last.well.received ≡ map (stroke_of pen) bodies

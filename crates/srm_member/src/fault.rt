@@ -7,16 +7,17 @@ ghost use Rattle.srm_names.specs.PageFeeds as spec;
 ghost use Rattle.srm_script.specs.declared.fault.ScriptFault.TheVariants.{Memory};
 ghost use Rattle.srm_script.specs.declared.status.TheConstants.{RAN_OUT};
 ghost use Rattle.srm_member.specs.declared.fault.MemberFault.TheVariants.{Script};
-ghost use Rattle.srm_member.specs.Statuses.{fault_of, fault_of_lists, fault_of_live, fault_of_bind, fault_of_binding, fault_of_key, fault_of_record, fault_with_call, lacks_memory, status_of_member};
+ghost use Rattle.srm_member.specs.Statuses.{fault_of, fault_of_lists, fault_of_live, fault_of_bind, fault_of_binding, fault_of_key, fault_of_record, fault_with_call, fault_with_cause, lacks_memory, status_of_member};
 ghost use Rattle.srm_member.specs.TakenText.{has_close};
 
 use srm_guarded::KeyFileFault;
 use srm_names::PageMsg;
 use srm_node::{NodeFault, WorkEnd, Worked};
+use srm_record::Unwritten;
 use srm_script::{FAILED, RAN_OUT, ScriptFault, WIRE_FAILED, print_fault};
 use srm_udp::WireFailure;
 use srm_world::Past;
-use std::alloc::AllocError;
+use std::alloc::{AllocError, Global};
 use std::io;
 use std::io::{ErrorKind, Write};
 use std::net::SocketAddr;
@@ -43,9 +44,12 @@ pub enum MemberFault {
     /// Its key file can't be used.
     #[error("{0}")]
     Key(KeyFileFault),
-    /// The file of its record can't be made, or hasn't the whole record.
+    /// The file of its record hasn't the whole record.
     #[error("srm: record")]
     Record,
+    /// The file of its record, at this path, can't be made, or hasn't the whole record, for this cause.
+    #[error("srm: record {0}")]
+    Unrecorded(Unwritten),
 }
 
 impl MemberFault {
@@ -124,6 +128,30 @@ impl MemberFault {
         }
     }
 
+    /// Returns the fault with where the record's file is and what it lacks something for, where that is known and it isn't whole; any other fault stays. Takes no memory.
+    pub fn with_cause(self, cause: Option<Unwritten>) -> MemberFault
+        ensures { result ≡ fault_with_cause cause self }
+    {
+        let Some(cause) = cause else {
+            return self;
+        };
+        match self {
+            MemberFault::Record => MemberFault::Unrecorded(cause),
+            _ => self,
+        }
+    }
+
+    /// Returns the fault of a record whose file can't be made at this path; out of memory is one by itself.
+    pub fn of_opening(alloc: Global, path: &str, error: io::Error) -> MemberFault {
+        let cause = error.kind();
+        match String::from_str(alloc, path) {
+            Ok(path) if cause != ErrorKind::OutOfMemory => {
+                MemberFault::Unrecorded(Unwritten { path, cause })
+            }
+            _ => MemberFault::Script(ScriptFault::Memory),
+        }
+    }
+
     /// Prints the fault to `err`, as a line, and returns the status that the program ends with: 1, 3 or 4. An `err` that fails changes nothing.
     pub fn print<E: Write>(&self, err: &mut E) -> u8
         ensures status { result ≡ status_of_member self.now }
@@ -135,7 +163,9 @@ impl MemberFault {
                 print_fault(self, err, WIRE_FAILED)
             }
             MemberFault::Turns => print_fault(self, err, RAN_OUT),
-            MemberFault::Key(_) | MemberFault::Record => print_fault(self, err, FAILED),
+            MemberFault::Key(_) | MemberFault::Record | MemberFault::Unrecorded(_) => {
+                print_fault(self, err, FAILED)
+            }
         }
     }
 

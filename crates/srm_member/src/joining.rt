@@ -1,6 +1,7 @@
 //! What the ends of lanes and of the stroke queue tell once their threads have ended.
 
 ghost use Rattle.std.specs.Prelude.{◌≡◌, map};
+ghost use Rattle.std.specs.Bool.{OnTrue};
 ghost use Rattle.std.specs.List.{AllByRecursion};
 ghost use Rattle.srm_node.specs.Hosting.{AreEndsOfLanes};
 ghost use Rattle.srm_member.specs.WholeRuns.{TakePrefixes, IsReceivedOf};
@@ -9,17 +10,22 @@ use srm_node::Worked;
 use srm_pages::ends::Well;
 use srm_pages::{Feed, Inked, settle};
 use std::collections::VecDeque;
+use std::sync::Wait;
 
-/// Compares producers that are done with their stroke queue: what it received of each is a prefix of what the producer sent. It is there for contracts: it changes
-/// nothing, and neither waits nor takes memory. Precondition: the producers are of this queue.
-pub fn join_pens(well: &mut Well, pens: Vec<Inked>)
+/// Compares producers that are done with their stroke queue, and returns whether it received all that each of them sent, once and in order. It did unless it still holds a
+/// stroke, which is dropped then. Takes no memory. Precondition: the producers are of this queue.
+pub fn join_pens<R: Wait>(rt: &R, well: &mut Well, pens: Vec<Inked>) -> bool
     requires { AllByRecursion (λ p. p.well ≡ well.old.well) pens.items }
-    ensures same { well.new ≡ well.old }
-    ensures parts { AllByRecursion (IsReceivedOf well.new.received) pens.items }
+    ensures same { OnTrue result (well.new ≡ well.old) }
+    ensures parts { OnTrue result (AllByRecursion (IsReceivedOf well.old.received) pens.items) }
 {
     for pen in pens {
-        well.join_pen(pen);
+        let (_, all) = well.join_pen(rt, pen);
+        if !all {
+            return false;
+        }
     }
+    true
 }
 
 /// Puts the two ends of each lane together, by page slot: what was taken is a prefix of what was put. It is there for contracts, and drops the ends. Precondition:

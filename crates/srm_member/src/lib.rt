@@ -17,7 +17,7 @@
 //! A member with a record makes its file by [`open_record`], begins it by [`beginning_of`], and ends it by [`end_record`].
 //!
 //! **Errors**, in this order: a wrong command line; a key file that can't be used; an input that fails, is too long or has a line that is; a record whose file can't be
-//! made; an address that can't be bound; what ends a run; and a record that isn't whole. [`MemberFault`] has the text and the status of each. [`noted_call`] returns which call of a wire failed, and why, and [`told_with`] tells a run's fault with it.
+//! made; an address that can't be bound; what ends a run; and a record that isn't whole. [`MemberFault`] has the text and the status of each. A bound member's [`Notes`] have which call of its wire failed and why its record lacks something; [`told_with`] tells a run's fault with them.
 #![tactic(auto)]
 
 mod dealing;
@@ -35,7 +35,7 @@ mod station;
 pub use dealing::deal;
 pub use fault::MemberFault;
 pub use joining::{join_pens, settle_lanes};
-pub use noting::{Noting, noted_call, told_with};
+pub use noting::{Keeping, Notes, Noting, noted_call, noted_cause, share_keeping, told_with};
 pub use pens::{Waking, send_stroke, share_waker, wake};
 pub use recording::{Recorded, beginning_of, end_record, open_record};
 pub use replying::print_reply;

@@ -1,8 +1,8 @@
 //! The producers, each in a thread.
 
-ghost use Rattle.std.specs.Prelude.{◌≡◌, ◌+◌, ◌<◌, ◌≤◌, [], ◌∷◌, ◌++◌, map, length, vec_len, vec_capacity, IfOk, IfSome};
+ghost use Rattle.std.specs.Prelude.{◌≡◌, ◌+◌, ◌<◌, ◌≤◌, true, [], ◌∷◌, ◌++◌, map, length, vec_len, vec_capacity, IfOk, IfSome};
 ghost use Rattle.std.specs.Bool.{OnTrue, OnFalse};
-ghost use Rattle.srm_member.specs.Strokes.{stroke_on, PenSentPrefix, PensDrew, pens_with, pen_and_bodies};
+ghost use Rattle.srm_member.specs.Strokes.{stroke_on, PenSent, PensDrew, pens_with, pen_and_bodies};
 
 use bytes::Bytes;
 use srm_names::Page;
@@ -24,20 +24,36 @@ const FIRST_WAIT: u64 = 50;
 
 const LONGEST_WAIT: u64 = 6_400;
 
-/// A producer's promise: it sends a prefix of these bodies.
+/// A producer that is done, and whether it sent all of its bodies.
+#[derive(Drop)]
+pub struct Drew {
+    inked: Inked,
+    all: bool,
+}
+
+/// A producer's promise: it sends a prefix of these bodies, and says whether it is all of them.
 #[derive(Drop)]
 pub struct Draws(Snapshot<Pen>, Snapshot<Vec<Bytes>>);
 
-impl Promise<Inked> for Draws {
-    ghost use Rattle.srm_member.specs.Strokes.{PenSentPrefix};
+impl Promise<Drew> for Draws {
+    ghost use Rattle.srm_member.specs.Strokes.{PenSent};
 
-    ghost kept_by = { λ p inked. PenSentPrefix p.1.value.items p.0.value inked };
+    ghost kept_by = { λ p drew. PenSent drew.all p.1.value.items p.0.value drew.inked };
 }
 
 /// A producer in its thread.
 #[derive(Drop)]
 pub struct PenThread {
-    handle: PromisedHandle<Inked, Draws>,
+    handle: PromisedHandle<Drew, Draws>,
+}
+
+/// Producers that are done, and whether each sent all of its bodies.
+#[derive(Drop)]
+pub struct DonePens {
+    /// The producers.
+    pub inked: Vec<Inked>,
+    /// Whether each sent all of its bodies. One does unless the node ended before.
+    pub all: bool,
 }
 
 /// The threads of the producers, and the flag that tells them that the node has ended. Contracts see the producers, each with the bodies that it is to draw.
@@ -142,8 +158,8 @@ impl PenThreads {
     }
 
     /// Tells the threads that the node has ended, waits for them, and returns the producers, in their order.
-    pub fn end<R: Threads>(self, rt: &R) -> Vec<Inked>
-        ensures { PensDrew self result.items }
+    pub fn end<R: Threads>(self, rt: &R) -> DonePens
+        ensures { PensDrew result.all self result.inked.items }
     {
         let PenThreads {
             threads,
@@ -178,25 +194,33 @@ fn spawn_pen<R: time::Clock + Threads + Wait + Copy + Send + 'static>(
 }
 
 /// Waits for the threads, and puts their producers into this list, which has room for them.
-fn join_all<R: Threads>(rt: &R, threads: VecDeque<PenThread>, inked: Vec<Inked>) -> Vec<Inked>
+fn join_all<R: Threads>(rt: &R, threads: VecDeque<PenThread>, inked: Vec<Inked>) -> DonePens
     requires none { inked.items ≡ [] }
     requires room { vec_len inked + length threads.items ≤ vec_capacity inked }
-    ensures { PensDrew (map pen_and_bodies threads.items) result.items }
+    ensures { PensDrew result.all (map pen_and_bodies threads.items) result.inked.items }
 {
     let mut left = threads;
     let mut inked = inked;
+    let mut all = true;
     for _ in 0..left.len() {
         let Some(thread) = left.pop_front() else {
             unreachable!()
         };
         let one = join_one(rt, thread);
-        put(&mut inked, one);
+        all = are_both(all, one.all);
+        put(&mut inked, one.inked);
     }
-    inked
+    DonePens { inked, all }
 }
 
-fn join_one<R: Threads>(rt: &R, thread: PenThread) -> Inked
-    ensures { PenSentPrefix (pen_and_bodies thread).1 (pen_and_bodies thread).0 result }
+fn are_both(one: bool, other: bool) -> bool
+    ensures { result ≡ true → (one ≡ true) × (other ≡ true) }
+{
+    one && other
+}
+
+fn join_one<R: Threads>(rt: &R, thread: PenThread) -> Drew
+    ensures { PenSent result.all (pen_and_bodies thread).1 (pen_and_bodies thread).0 result.inked }
 {
     let PenThread { handle } = thread;
     handle.join(rt)
@@ -211,27 +235,34 @@ fn put(inked: &mut Vec<Inked>, one: Inked)
     let _ = inked.push(one);
 }
 
-/// Draws these bodies on the first page, in order, until the node has ended. Returns the producer, which is done.
-#[tactic(auto, using(crate::proofs::Strokes::drew_none, crate::proofs::Strokes::drew_more))]
+/// Draws these bodies on the first page, in order, until the node has ended. Returns the producer, which is done, and whether it sent all of them.
+#[tactic(auto, using(crate::proofs::Strokes::drew_none, crate::proofs::Strokes::drew_more, crate::proofs::Strokes::drew_some, crate::proofs::Strokes::drew_all))]
 fn draw_all<R: time::Clock + Wait>(
     rt: &R,
     pen: Pen,
     bodies: Vec<Bytes>,
     ended: &AtomicBool,
     waker: &Waking,
-) -> Inked
-    ensures { PenSentPrefix bodies.items pen result }
+) -> Drew
+    ensures { PenSent result.all bodies.items pen result.inked }
 {
     let mut pen = pen;
     for body in bodies {
         if !send_stroke(rt, &mut pen, Page::first(), body, ended, waker) {
-            break;
+            return end_pen(pen, false, waker);
         }
     }
+    end_pen(pen, true, waker)
+}
+
+// Ends a producer, and the node's pause: one that leaves once its producers are done needn't wait for it.
+fn end_pen(pen: Pen, all: bool, waker: &Waking) -> Drew
+    ensures inked { result.inked ≡ pen }
+    ensures all { result.all ≡ all }
+{
     let inked = pen.done();
-    // A node that leaves once its producers are done needn't wait for it.
     wake(waker);
-    inked
+    Drew { inked, all }
 }
 
 /// Sends a stroke with this body on a page, and returns whether it was sent.

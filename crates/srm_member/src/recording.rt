@@ -6,27 +6,33 @@ ghost use Rattle.srm_record.specs.Takes.{lent};
 ghost use Rattle.srm_member.specs.TakenText.{lists_of};
 
 use crate::fault::MemberFault;
+use crate::noting::Keeping;
 use srm_agent::Entry;
 use srm_frames::Beginning;
 use srm_names::{PAGES, PageMsg};
 use srm_node::Worked;
 use srm_options::NodeOptions;
-use srm_record::{Ended, Written};
+use srm_record::{Ended, RecordFailure, Written};
 use srm_world::{History, Past};
 use std::alloc::{AllocError, Global};
 use std::fs::{OpenFile, OpenOptions};
-use std::io::{ErrorKind, Write};
+use std::io::Write;
 use std::os::unix::fs::OpenOptionsExt;
 use std::rt::Files;
-use std::time;
+use std::sync::Arc;
 use std::time::{SystemTime, UNIX_EPOCH};
+use std::{fs, time};
 
 /// Who owns the record may read and write it, and nobody else: it has every stroke.
 const MODE: u32 = 0o600;
 
-/// Makes the file of a member's record, if its options name one. Returns `None` if they name none. Fails with [`MemberFault::Record`] if the file can't be made, as
-/// when there is one with this path, and if out of memory.
-pub fn open_record<R: Files>(rt: &R, options: &NodeOptions) -> Result<Option<R::File>, MemberFault>
+/// Makes the file of a member's record, if its options name one. Returns `None` if they name none. Fails with [`MemberFault::Unrecorded`] and the cause if the file can't
+/// be made, as when there is one with this path, and if out of memory.
+pub fn open_record<R: Files>(
+    rt: &R,
+    alloc: Global,
+    options: &NodeOptions,
+) -> Result<Option<R::File>, MemberFault>
     ensures { IfOk result (λ file. is_some file ≡ is_some options.now.«record») }
 {
     let Some(path) = &options.record else {
@@ -36,10 +42,36 @@ pub fn open_record<R: Files>(rt: &R, options: &NodeOptions) -> Result<Option<R::
     how.write(true).create_new(true).mode(MODE);
     match how.open(rt, path.as_str()) {
         Ok(file) => Ok(Some(file)),
-        Err(error) if error.kind() == ErrorKind::OutOfMemory => {
+        Err(error) => Err(MemberFault::of_opening(alloc, path.as_str(), error)),
+    }
+}
+
+/// Makes the note of a record whose file was made at this path, if one was. Where memory is out for it, the file is removed.
+pub(crate) fn keep_note<R: Files>(
+    rt: &R,
+    alloc: Global,
+    path: Option<String>,
+    has_file: bool,
+) -> Result<Keeping, MemberFault> {
+    let Some(path) = path else {
+        return Ok(None);
+    };
+    if !has_file {
+        return Ok(None);
+    }
+    match Arc::new(alloc, RecordFailure::new(path)) {
+        Ok(failure) => Ok(Some(failure)),
+        Err(failed) => {
+            let _ = fs::remove_file(rt, failed.value.path());
             Err(MemberFault::from(AllocError))
         }
-        Err(_) => Err(MemberFault::Record),
+    }
+}
+
+/// Removes the file that was made for the record of a member that isn't run. One that can't be removed stays.
+pub(crate) fn remove_record<R: Files>(rt: &R, keeping: &Keeping) {
+    if let Some(failure) = keeping {
+        let _ = fs::remove_file(rt, failure.path());
     }
 }
 
@@ -97,15 +129,29 @@ pub fn end_record<F: Write + OpenFile + Drop, P: Past<Entry> + Drop>(
             file: None,
         });
     }
-    let Ended { whole, file, .. } = past.end(taken.as_slice());
-    let whole = whole && is_stored(&file);
+    let Ended {
+        whole,
+        file,
+        failure,
+        ..
+    } = past.end(taken.as_slice());
+    let whole = whole && is_stored(&file, &failure);
     Ok(Recorded { whole, file })
 }
 
-fn is_stored<F: OpenFile>(file: &Option<F>) -> bool {
-    match file {
-        Some(file) => file.sync_all().is_ok(),
-        None => true,
+// Whether the system says that it stored the file, if there is one. Else the cause is noted.
+fn is_stored<F: OpenFile>(file: &Option<F>, keeping: &Keeping) -> bool {
+    let Some(file) = file else {
+        return true;
+    };
+    match file.sync_all() {
+        Ok(()) => true,
+        Err(error) => {
+            if let Some(failure) = keeping {
+                failure.note(&error);
+            }
+            false
+        }
     }
 }
 

@@ -1,11 +1,14 @@
 //! A member from its options to its end.
 
-ghost use Rattle.std.specs.Prelude.{◌≡◌, ◌≤◌, ◌⊎◌, Some, is_some, map, IfErr, IfOk, IfSome, MatchOption, OnOk};
+ghost use Rattle.std.specs.Prelude.{◌≡◌, ◌≤◌, ◌⊎◌, true, Some, is_some, map, IfErr, IfOk, IfSome, MatchOption, OnOk};
+ghost use Rattle.std.specs.Bool.{OnTrue};
+ghost use Rattle.std.specs.List.{AllByRecursion};
 ghost use Rattle.srm_node.specs.Calls.{calls_of};
 ghost use Rattle.srm_udp.specs.Clocks.{NeverFalls};
 ghost use Rattle.srm_script.specs.declared.status.TheConstants.{WIRE_FAILED, RAN_OUT};
 ghost use Rattle.srm_member.specs.Statuses.{IsStatus};
 ghost use Rattle.srm_member.specs.Stations.{HasNewEnds};
+ghost use Rattle.srm_member.specs.WholeRuns.{IsReceivedOf};
 ghost use Rattle.std.specs.Io.KnownBytes.{Keeps};
 ghost use Rattle.srm_member.specs.MemberRuns.{FaultKeeps, PrintsRun, PrintsWholeRun, RecordsWholeRun, RunsRecorded};
 
@@ -21,8 +24,10 @@ use srm_agent::Entry;
 use srm_guarded::{read_key, seal_by};
 use srm_node::{Hosted, Wire};
 use srm_options::NodeOptions;
+use srm_pages::Inked;
+use srm_pages::ends::Well;
 use srm_record::Written;
-use srm_script::read_input;
+use srm_script::{ScriptFault, read_input};
 use srm_world::{Forgotten, Past};
 use std::alloc::Global;
 use std::fs::OpenFile;
@@ -78,10 +83,10 @@ where
     let dealt = deal(alloc, input.as_slice())?;
     drop(input);
     let turns = options.turns;
-    let record = open_record(rt, &options)?;
     let seal = seal_by(rt, alloc, key, options.config.me())?;
-    let (station, noting) = Station::bind(rt, alloc, options, seal, record, Forgotten::new())?;
-    match run_noting(rt, alloc, station, dealt, turns, &noting, out) {
+    let record = open_record(rt, alloc, &options)?;
+    let (station, notes) = Station::bind(rt, alloc, options, seal, record, Forgotten::new())?;
+    match run_noting(rt, alloc, station, dealt, turns, &notes.wire, out) {
         Ok(_) => Ok(()),
         Err(fault) => Err(fault),
     }
@@ -120,8 +125,8 @@ where
 /// `turns` is the most turns of the node. Fails as [`Station::run`] does, with what ended the run ([`MemberFault::of_whole_run`]), with
 /// [`ScriptFault::Memory`](srm_script::ScriptFault) before it prints, with [`ScriptFault::Output`](srm_script::ScriptFault) after a prefix of the text, or with
 /// [`MemberFault::Record`] after all of it if the file hasn't the whole record. Any other fault leaves `out` as it was, so nothing is printed unless the run was whole:
-/// then what is printed as taken in a page slot is all that the node's journal gave there, to its close. The strokes that the journal drew of a producer are a prefix
-/// of its bodies, in order.
+/// then what is printed as taken in a page slot is all that the node's journal gave there, to its close. The strokes that the journal drew of a producer are all of its
+/// bodies, in order. Where a whole run lacks one of these, the fault is [`ScriptFault::Memory`](srm_script::ScriptFault) too.
 pub fn run_station<R, X, F, P, O>(
     rt: &R,
     alloc: Global,
@@ -140,7 +145,12 @@ where
     ensures whole { IfOk result (λ file. RunsRecorded F.contents (calls_of NeverFalls X.receives X.sends X.pauses) turns (map (λ bodies. bodies.items) dealt.items) station.node.view station.node.begins file (O.contents out.old) (O.contents out.new)) }
     ensures nothing { IfErr result (λ fault. FaultKeeps fault (PrintsRun (calls_of NeverFalls X.receives X.sends X.pauses) turns (map (λ bodies. bodies.items) dealt.items) station.node.view (O.contents out.old) (O.contents out.new)) (O.contents out.old) (O.contents out.new)) }
 {
-    let Ran { hosted, ends, pens } = station.run_whole(rt, alloc, dealt, turns)?;
+    let Ran {
+        hosted,
+        ends,
+        pens,
+        drew_all,
+    } = station.run_whole(rt, alloc, dealt, turns)?;
     let Hosted {
         history,
         feeds,
@@ -153,10 +163,11 @@ where
     match MemberFault::of_whole_run(end, worked.as_slice()) {
         Some(fault) => Err(fault),
         None => {
+            if !received_all(rt, drew_all, ends.well, pens) {
+                return Err(MemberFault::Script(ScriptFault::Memory));
+            }
             print_taken(alloc, out, me, worked.as_slice())?;
             settle_lanes(feeds, worked);
-            let mut well = ends.well;
-            join_pens(&mut well, pens);
             if whole {
                 Ok(file)
             } else {
@@ -164,4 +175,13 @@ where
             }
         }
     }
+}
+
+// Whether each producer sent all of its bodies, and the stroke queue received what each sent.
+fn received_all<R: Wait>(rt: &R, drew_all: bool, well: Well, pens: Vec<Inked>) -> bool
+    requires { AllByRecursion (λ p. p.well ≡ well.well) pens.items }
+    ensures { OnTrue result ((drew_all ≡ true) × AllByRecursion (IsReceivedOf well.received) pens.items) }
+{
+    let mut well = well;
+    join_pens(rt, &mut well, pens) && drew_all
 }

@@ -20,9 +20,9 @@ ghost use Rattle.srm_member.specs.Statuses.{fault_of_binding_at};
 ghost use Rattle.srm_member.specs.Strokes.{PensDrew, pens_with};
 
 use crate::fault::MemberFault;
-use crate::noting::{Noting, note_if};
-use crate::pens::{PenThreads, Waking, share_waker};
-use crate::recording::beginning_of;
+use crate::noting::{Keeping, Notes, Noting, note_if, share_keeping};
+use crate::pens::{DonePens, PenThreads, Waking, share_waker};
+use crate::recording::{beginning_of, keep_note, remove_record};
 use crate::sink::{Unseen, sinks};
 use bytes::Bytes;
 use srm_agent::{Config, Entry};
@@ -42,6 +42,7 @@ use srm_world::Past;
 use std::alloc::{AllocError, Global};
 use std::io::Write;
 use std::net::{Net, SocketAddr};
+use std::rt::Files;
 use std::sync::Wait;
 use std::thread::Threads;
 use std::{io, time};
@@ -70,11 +71,12 @@ impl<R: time::Clock + Copy + Drop, F: Write + Drop, P: Past<Entry> + Drop> Stati
     Written<F, P>,
 > {
     /// Binds a member to its own address, with the guard that its options ask for, and `seal` as [`seal_by`](srm_guarded::seal_by) makes it of their key: without
-    /// it nothing is tagged or checked, even if the options name a key file. The node's entries go to `file`, if there is one, whatever path the options name, and then to `past`, which is empty. The node leaves `stay` microseconds after its start, and lets no more be missing than
-    /// `guard.most_missing`. `linger`, `live` and `turns` aren't used.
+    /// it nothing is tagged or checked, even if the options name a key file. The node's entries go to `file`, if there is one, which was made at the path that the options name, and then to `past`,
+    /// which is empty. The node leaves `stay` microseconds after its start, and lets no more be missing than `guard.most_missing`. `linger`, `live` and `turns` aren't used.
     ///
-    /// Returns the station, and where its wire notes its first failure if `verbose` is set. Fails with [`MemberFault::Wire`] if the address can't be bound, or with
-    /// [`MemberFault::Binding`] and the cause if `verbose` is set; with `Wire` if the clock can't be read; and if out of memory.
+    /// Returns the station, and where it notes what fails: its wire's first failure if `verbose` is set, and why its record isn't written any more. Fails with
+    /// [`MemberFault::Wire`] if the address can't be bound, or with [`MemberFault::Binding`] and the cause if `verbose` is set; with `Wire` if the clock can't be read;
+    /// and if out of memory. The file is removed then.
     pub fn bind(
         rt: &R,
         alloc: Global,
@@ -82,6 +84,35 @@ impl<R: time::Clock + Copy + Drop, F: Write + Drop, P: Past<Entry> + Drop> Stati
         seal: Option<Seal>,
         file: Option<F>,
         past: P,
+    ) -> Result<(Station<R, Rested<R, Guard<UdpWire>>, Written<F, P>>, Notes), MemberFault>
+    where
+        R: Net + Files,
+        requires { P.appended past ≡ [] }
+        ensures new { IfOk result (λ n. IsNewStation options.config options.stay options.guard.most_missing None (new_rested (guarded_wire options.addresses.items options.guard seal)) n.0.node.view n.0.taps.items n.0.pens.items) }
+        ensures words { IfOk result (λ n. n.0.node.words ≡ words_of options.seed) }
+        ensures begins { IfOk result (λ n. BeginsIn F.contents file options.seed n.0.node.view.journal.start n.0.node.begins) }
+    {
+        let mut options = options;
+        let path = options.record.take();
+        let record = keep_note(rt, alloc, path, file.is_some())?;
+        match Station::bind_keeping(rt, alloc, options, seal, file, past, &record) {
+            Ok((station, wire)) => Ok((station, Notes { wire, record })),
+            Err(fault) => {
+                remove_record(rt, &record);
+                Err(fault)
+            }
+        }
+    }
+
+    // Does the same, whatever path the options name. Why the file lacks something is noted in `keeping`.
+    fn bind_keeping(
+        rt: &R,
+        alloc: Global,
+        options: NodeOptions,
+        seal: Option<Seal>,
+        file: Option<F>,
+        past: P,
+        keeping: &Keeping,
     ) -> Result<(Station<R, Rested<R, Guard<UdpWire>>, Written<F, P>>, Noting), MemberFault>
     where
         R: Net,
@@ -116,7 +147,7 @@ impl<R: time::Clock + Copy + Drop, F: Write + Drop, P: Past<Entry> + Drop> Stati
                 },
             ) => {
                 let wire = Rested::new(*rt, wire);
-                let past = Written::new(alloc, file, beginning, past);
+                let past = Written::new(alloc, file, beginning, past, share_keeping(keeping));
                 match Station::make(rt, alloc, config, seed, stay, most, wire, waker, past) {
                     Ok(station) => Ok((station, note_if(verbose, failure))),
                     Err(fault) => Err(fault),
@@ -188,8 +219,8 @@ impl<R: time::Clock + Copy + Drop, X: Wire + Drop, P: Past<Entry> + Drop> Statio
         Ok(ran.hosted)
     }
 
-    /// Does what [`run`](Station::run) does, and returns the node's ends of its stroke queue and its control, and the producers too. Each producer sent a prefix of its bodies. Fails as `run`
-    /// does.
+    /// Does what [`run`](Station::run) does, and returns the node's ends of its stroke queue and its control, and the producers too. Each producer sent a prefix of its bodies, and all of
+    /// them where `drew_all` says so. Fails as `run` does.
     pub fn run_whole<L: Past<PageMsg> + Send + Drop + 'static>(
         self,
         rt: &R,
@@ -204,7 +235,7 @@ impl<R: time::Clock + Copy + Drop, X: Wire + Drop, P: Past<Entry> + Drop> Statio
             (λ fault. (all : Bool) × HostFailsWith (calls_of NeverFalls X.receives X.sends X.pauses) (kinds_of L.appended L.is_refused NeverStops) all self.node.view (starts_of self.taps.items sinks) turns fault r.ends r.hosted)) }
         ensures lanes { IfOk result (λ r. IfOk r.hosted.end (λ _. AreEndsOfLanes self.node.view.feeds self.taps.items → AreEndsOfLanes r.hosted.feeds.items (map (λ w. w.tap) r.hosted.worked.items))) }
         ensures well { IfOk result (λ r. IfOk r.hosted.end (λ _. SameWell self.node.view.well r.ends.well)) }
-        ensures pens { IfOk result (λ r. PensDrew (pens_with self.pens.items (map (λ bodies. bodies.items) dealt.items)) r.pens.items) }
+        ensures pens { IfOk result (λ r. PensDrew r.drew_all (pens_with self.pens.items (map (λ bodies. bodies.items) dealt.items)) r.pens.items) }
         ensures begins { IfOk result (λ r. r.hosted.history.begins ≡ self.node.begins) }
         ensures memory { IfErr result (λ fault. fault ≡ Script Memory) }
     {
@@ -233,7 +264,7 @@ impl<R: time::Clock + Copy + Drop, X: Wire + Drop, P: Past<Entry> + Drop> Statio
             (λ fault. (all : Bool) × HostFailsWith (calls_of NeverFalls X.receives X.sends X.pauses) (kinds_of L.appended L.is_refused NeverStops) all self.node.view (starts_of self.taps.items crew.sinks.items) turns fault r.ends r.hosted)) }
         ensures lanes { IfOk result (λ r. IfOk r.hosted.end (λ _. AreEndsOfLanes self.node.view.feeds self.taps.items → AreEndsOfLanes r.hosted.feeds.items (map (λ w. w.tap) r.hosted.worked.items))) }
         ensures well { IfOk result (λ r. IfOk r.hosted.end (λ _. SameWell self.node.view.well r.ends.well)) }
-        ensures pens { IfOk result (λ r. PensDrew (pens_with self.pens.items (map (λ bodies. bodies.items) dealt.items)) r.pens.items) }
+        ensures pens { IfOk result (λ r. PensDrew r.drew_all (pens_with self.pens.items (map (λ bodies. bodies.items) dealt.items)) r.pens.items) }
         ensures begins { IfOk result (λ r. r.hosted.history.begins ≡ self.node.begins) }
         ensures memory { IfErr result (λ fault. fault ≡ Script Memory) }
     {
@@ -246,9 +277,17 @@ impl<R: time::Clock + Copy + Drop, X: Wire + Drop, P: Past<Entry> + Drop> Statio
         let Crew { sinks, mut threads } = crew;
         let all = threads.start(rt, pens, dealt);
         let hosted = host_if(rt, alloc, all, node, taps, sinks, turns);
-        let pens = threads.end(rt);
+        let DonePens {
+            inked,
+            all: drew_all,
+        } = threads.end(rt);
         match hosted {
-            Some((hosted, ends)) => Ok(Ran { hosted, ends, pens }),
+            Some((hosted, ends)) => Ok(Ran {
+                hosted,
+                ends,
+                pens: inked,
+                drew_all,
+            }),
             None => Err(MemberFault::Script(ScriptFault::Memory)),
         }
     }
@@ -263,6 +302,8 @@ pub struct Ran<P: Past<Entry> + Drop = Vec<Entry>, L: Past<PageMsg> + Drop = Vec
     pub ends: NodeEnds,
     /// The producers, which are done, by number.
     pub pens: Vec<Inked>,
+    /// Whether each producer sent all of its bodies.
+    pub drew_all: bool,
 }
 
 impl<R: time::Clock + Copy + Drop, X: Wire + Drop, P: Past<Entry> + Drop> Station<R, X, P> {

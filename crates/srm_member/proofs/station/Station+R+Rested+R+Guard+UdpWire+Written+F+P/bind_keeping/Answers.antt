@@ -1,5 +1,5 @@
 use Rattle.srm_member.proofs.Stations.{begins_here}
-use Rattle.srm_member.proofs.station.Station+R+Rested+R+Guard+UdpWire+Written+F+P.bind.Goals as goal
+use Rattle.srm_member.proofs.station.Station+R+Rested+R+Guard+UdpWire+Written+F+P.bind_keeping.Goals as goal
 
 pub returns-in-Ok-make-clause-begins : goal.returns-in-Ok-make-clause-begins
 returns-in-Ok-make-clause-begins g c =
