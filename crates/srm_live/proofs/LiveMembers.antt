@@ -8,6 +8,7 @@ use Rattle.srm_control.specs.Ends.{ControlView, new_commands}
 use Rattle.srm_udp.specs.Resting.{new_rested}
 use Rattle.srm_guard.specs.Seals.{SealView}
 use Rattle.srm_guarded.specs.Guarding.{IsSealBy, guarded_wire}
+use Rattle.srm_guarded.specs.Keying.{IsKeyRead}
 use Rattle.srm_options.specs.declared.node_options.NodeOptions.{NodeOptions}
 use Rattle.srm_node.specs.Calls.{Calls}
 use Rattle.srm_node.specs.Nodes.{NodeState}
@@ -15,7 +16,7 @@ use Rattle.srm_script.specs.declared.fault.ScriptFault.{ScriptFault}
 use Rattle.srm_script.specs.declared.fault.ScriptFault.TheVariants.{StandardInput, TooLong, BadLine, Output, Memory}
 use Rattle.srm_member.specs.declared.fault.MemberFault.{MemberFault}
 use Rattle.srm_member.specs.declared.fault.MemberFault.TheVariants.{Script}
-use Rattle.srm_member.specs.Statuses.{IsToldOf, fault_of_live, fault_with_call, status_of_member}
+use Rattle.srm_member.specs.Statuses.{IsToldOf, fault_of_live, fault_with_call, fault_with_cause, status_of_member}
 use Rattle.srm_world.specs.RecordStarts.{RecordStart}
 use Rattle.srm_record.specs.Begun.{IsRecorded}
 use Rattle.srm_member.proofs.MemberRuns.{status_of_some, status_of_most, stored_if}
@@ -61,7 +62,7 @@ end_none (Some f) was_before (inr before) = let k : Some (Member f) ≡ Some Was
 
 pub told_none : (run told : Option MemberFault) → IsToldOf run told → told ≡ None → run ≡ None
 told_none None told of none = refl
-told_none (Some f) told (call, of) none = let k : Some (fault_with_call call f) ≡ None = sym of ∙ none in cc
+told_none (Some f) told (call, cause, of) none = let k : Some (fault_with_cause cause (fault_with_call call f)) ≡ None = sym of ∙ none in cc
 
 pub whole_end : (run told : Option MemberFault) (noted : Option ScriptFault) (was_before : Bool) (result : Option LiveFault) → IsToldOf run told → result ≡ fault_of_end (fault_of_live told noted) was_before → IsWholeEnd result → run ≡ None
 whole_end run told noted was_before result of is whole = told_none run told of (live_none told noted (end_none (fault_of_live told noted) was_before (subst IsWholeEnd is whole)))
@@ -77,12 +78,13 @@ lives_from {W} {X} {C} calls Sees contents turns known old new control sinks is 
     record { commands = new_commands control.out control.back; fresh = refl; took = took; whole = both.0; saw = saw; file = file; recorded = both.1 }
 
 -- and it was that of a new station
-pub lives_with : {F : Type 0} (contents : F → Option (List ℕ)) (options : NodeOptions) (known : Option (List ℕ)) (sinks : List PrintingView) (key : Option (List ℕ)) (seal : Option SealView) (node : MemberNode) (taps : List TapView) (pens : List PenView) (opened : Option F) (begins : Option RecordStart)
-    → is_some key ≡ is_some options.guard.key → IsSealBy key options.config.me seal → IsNewStation options.config 0 options.guard.most_missing None (new_rested (guarded_wire options.addresses.items options.guard seal)) node taps pens → is_some opened ≡ is_some options.«record» → BeginsIn contents opened options.seed node.journal.start begins
-    → LivesFrom member_calls PrintsLine contents options.turns known node begins sinks → LivesWith contents options known sinks
-lives_with contents options known sinks key seal node taps pens opened begins keyed sealed new asked began lives = record {
+pub lives_with : {F : Type 0} (contents remaining : F → Option (List ℕ)) (options : NodeOptions) (known : Option (List ℕ)) (sinks : List PrintingView) (key : Option (List ℕ)) (seal : Option SealView) (node : MemberNode) (taps : List TapView) (pens : List PenView) (opened : Option F) (begins : Option RecordStart)
+    → is_some key ≡ is_some options.guard.key → IsKeyRead remaining options.guard.key key → IsSealBy key options.config.me seal → IsNewStation options.config 0 options.guard.most_missing None (new_rested (guarded_wire options.addresses.items options.guard seal)) node taps pens → is_some opened ≡ is_some options.«record» → BeginsIn contents opened options.seed node.journal.start begins
+    → LivesFrom member_calls PrintsLine contents options.turns known node begins sinks → LivesWith contents remaining options known sinks
+lives_with contents remaining options known sinks key seal node taps pens opened begins keyed read sealed new asked began lives = record {
   key = key;
   keyed = keyed;
+  read = read;
   seal = seal;
   sealed = sealed;
   node = node;
@@ -96,5 +98,5 @@ lives_with contents options known sinks key seal node taps pens opened begins ke
       (stored_if contents opened lives.file options.seed node.journal.start begins lives.whole.host.last.journal.entries lives.took began lives.recorded);
 }
 
-pub lives_whole : {F : Type 0} (contents : F → Option (List ℕ)) (options : NodeOptions) (known : Option (List ℕ)) (sinks : List PrintingView) → length sinks ≡ PAGES → All (λ (s : PrintingView). s ≡ new_printing options.config.me) sinks → LivesWith contents options known sinks → LivesWhole contents options known
-lives_whole contents options known sinks count new with_these = record { sinks = sinks; count = count; new = new; with_these = with_these }
+pub lives_whole : {F : Type 0} (contents remaining : F → Option (List ℕ)) (options : NodeOptions) (known : Option (List ℕ)) (sinks : List PrintingView) → length sinks ≡ PAGES → All (λ (s : PrintingView). s ≡ new_printing options.config.me) sinks → LivesWith contents remaining options known sinks → LivesWhole contents remaining options known
+lives_whole contents remaining options known sinks count new with_these = record { sinks = sinks; count = count; new = new; with_these = with_these }

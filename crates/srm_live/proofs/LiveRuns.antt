@@ -74,12 +74,6 @@ typed_as remaining i reader ps pens c control first others last reader_is pens_a
     subst (λ r. HaveTyped (remaining r) pens control first others last) reader_is
     (subst (λ xs. HaveTyped (remaining i) xs control first others last) (sym pens_are) (subst (λ x. HaveTyped (remaining i) ps x first others last) (sym control_is) typed))
 
--- a producer was put beside its stroke queue
-pub received_of : (well after : WellView) (inked back : PenView) → after ≡ well → back ≡ inked → ((held : List Stroke) × SentIs back.number back.sent after.received held) → IsReceivedOf well.received inked
-received_of well after inked back same is (held, sent) =
-    let here : IsPrefix (strokes_of back.number after.received) back.sent = (strokes_of back.number held, sym sent) in
-    subst (IsReceivedOf well.received) is (subst (λ (w : WellView). IsPrefix (strokes_of back.number w.received) back.sent) same here)
-
 wells_same : {X C : Type 0} (node : NodeView X C) (taps : List TapView) (pens : List PenView) (well : WellView) → HasNewEnds node taps pens → SameWell node.well well → (k : ℕ) (p : PenView) → slice_get pens k ≡ Some p → p.well ≡ well.well
 wells_same node taps pens well ends same k p at = ap (λ (x : PenView). x.well) (ends.new_pens k p at) ∙ sym (ap (λ (w : WellView). w.well) same)
 
@@ -131,18 +125,14 @@ typed_part : (known : Option (List ℕ)) (pen first : PenView) (control last : C
 typed_part None pen first control last c received w is new sent part heard = tt
 typed_part (Some text) pen first control last c received w is new (answers, left, sent) part heard =
     let first_is : first ≡ record { number = 0; sent = map (pen_stroke 0) sent.drawn; well = w.well } = sent.sent ∙ ap (λ (q : PenView). record q { sent = q.sent ++ map (pen_stroke q.number) sent.drawn }) is in
-    let front : IsPrefix (strokes_of 0 received) (map (pen_stroke 0) sent.drawn) = subst (λ (q : PenView). IsPrefix (strokes_of q.number received) q.sent) first_is part in
+    let received_is : strokes_of 0 received ≡ map (pen_stroke 0) sent.drawn = subst (λ (q : PenView). strokes_of q.number received ≡ q.sent) first_is part in
     let all = strokes_in first_page answers text in
     record {
       answers = answers;
       are_given = among_answered answers control last c (ap (λ (x : ControlView). x.answers) new) sent.heard heard;
       begun = begins_taken answers control last c (ap (λ (x : ControlView). x.commanded) new) sent.heard heard;
-      drawn = front_of_front (strokes_of 0 received) (map (pen_stroke 0) sent.drawn) (map (pen_stroke 0) all) front (map_prefix (pen_stroke 0) sent.drawn all (left, sym sent.split));
+      drawn = subst (λ (xs : List Stroke). IsPrefix xs (map (pen_stroke 0) all)) (sym received_is) (map_prefix (pen_stroke 0) sent.drawn all (left, sym sent.split));
     }
-
-front_of_none : {A : Type 0} (xs : List A) → IsPrefix xs [] → xs ≡ []
-front_of_none [] h = refl
-front_of_none (x ∷ xs) (rest, e) = cc
 
 receives_typed : {X C : Type 0} (node : NodeView X C) (taps : List TapView) (pens : List PenView) (known : Option (List ℕ)) (control : ControlView) (first : PenView) (others : List PenView) (last : ControlView) (c : CommandsView) (received : List Stroke)
     → HasNewEnds node taps pens → control ≡ new_control control.out control.back → HaveTyped known pens control first others last → IsReceivedOf received first → AllByRecursion (IsReceivedOf received) others → AreFirstOf (Some c) last → ReceivesTyped known (Some c) received
@@ -156,8 +146,7 @@ receives_typed node taps pens known control first others last c received ends ne
     none (suc k) some below =
         let (p, at_p) = at_place pens (suc k) (omega (arith, below, ends.count)) in
         let at_o : slice_get others k ≡ Some p = ap (λ ps. slice_get ps (suc k)) (sym typed.pens_are) ∙ at_p in
-        let front : IsPrefix (strokes_of (suc k) received) [] = subst (λ (q : PenView). IsPrefix (strokes_of q.number received) q.sent) (ends.new_pens (suc k) p at_p) (by_place (IsReceivedOf received) others k p parts at_o) in
-        front_of_none (strokes_of (suc k) received) front
+        subst (λ (q : PenView). strokes_of q.number received ≡ q.sent) (ends.new_pens (suc k) p at_p) (by_place (IsReceivedOf received) others k p parts at_o)
 
 -- THE WHOLE
 

@@ -10,6 +10,7 @@ use Rattle.srm_udp.specs.Udp.{UdpView}
 use Rattle.srm_guard.specs.Seals.{SealView}
 use Rattle.srm_guard.specs.Guards.{GuardView}
 use Rattle.srm_guarded.specs.Guarding.{IsSealBy, guarded_wire}
+use Rattle.srm_guarded.specs.Keying.{IsKeyRead}
 use Rattle.srm_options.specs.declared.node_options.NodeOptions.{NodeOptions}
 use Rattle.srm_node.specs.Calls.{Calls}
 use Rattle.srm_node.specs.Nodes.{NodeView}
@@ -35,11 +36,12 @@ pub record LivesFrom {X C S F : Type 0} (calls : Calls X C) (Sees : S → ℕ �
   pub file : Option F
   pub recorded : IsRecorded contents begins whole.host.last.journal.entries took file
 
--- A member with these options ran so over its own wire, with a key if they name a file of one and a new seal by it. It was to leave as soon as its producers were done, and was none before. Its
+-- A member with these options ran so over its own wire, with a key if they name a file of one, which is all of it, and a new seal by the key. It was to leave as soon as its producers were done, and was none before. Its
 -- sinks passed on the lines of what they saw. Its record is stored, if they name a file for it.
-pub record LivesWith {F : Type 0} (contents : F → Option (List ℕ)) (options : NodeOptions) (known : Option (List ℕ)) (sinks : List PrintingView) : Type 0 where
+pub record LivesWith {F : Type 0} (contents remaining : F → Option (List ℕ)) (options : NodeOptions) (known : Option (List ℕ)) (sinks : List PrintingView) : Type 0 where
   pub key : Option (List ℕ)
   pub keyed : is_some key ≡ is_some options.guard.key
+  pub read : IsKeyRead remaining options.guard.key key
   pub seal : Option SealView
   pub sealed : IsSealBy key options.config.me seal
   pub node : MemberNode
@@ -51,8 +53,8 @@ pub record LivesWith {F : Type 0} (contents : F → Option (List ℕ)) (options 
   pub stored : IsStoredIf contents (is_some options.«record») options.seed node.journal.start lives.whole.host.last.journal.entries lives.took
 
 -- And its sinks, one for each page slot, had passed on nothing before.
-pub record LivesWhole {F : Type 0} (contents : F → Option (List ℕ)) (options : NodeOptions) (known : Option (List ℕ)) : Type 0 where
+pub record LivesWhole {F : Type 0} (contents remaining : F → Option (List ℕ)) (options : NodeOptions) (known : Option (List ℕ)) : Type 0 where
   pub sinks : List PrintingView
   pub count : length sinks ≡ PAGES
   pub new : All (λ (s : PrintingView). s ≡ new_printing options.config.me) sinks
-  pub with_these : LivesWith contents options known sinks
+  pub with_these : LivesWith contents remaining options known sinks

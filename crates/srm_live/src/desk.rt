@@ -8,8 +8,11 @@ ghost use Rattle.srm_live.specs.LiveStatuses.{status_of_live};
 use crate::error_stream::ErrorStream;
 use crate::live_fault::LiveFault;
 use crate::tally::Tally;
+use crate::teller::Teller;
+use crate::title::Title;
 use srm_agent::Config;
 use srm_member::MemberFault;
+use srm_names::Member;
 use srm_script::{PrintedGone, ScriptFault};
 use std::alloc::{AllocError, Global};
 use std::io;
@@ -96,23 +99,6 @@ impl<O: Write, E: Write> Desk<O, E> {
         }
     }
 
-    /// Makes a text the title of the window, where standard error is a terminal. What is typed stands in the same window, so no line of it would do.
-    pub fn show_title<R: Wait>(&self, rt: &R, title: &str) {
-        if self.has_terminal {
-            self.err.lock(rt).show_title(title);
-        }
-    }
-
-    /// Gives the window the title back that it had.
-    pub fn restore_title<R: Wait>(&self, rt: &R) {
-        self.err.lock(rt).restore_title();
-    }
-
-    /// Tells a line, with its line end, on standard error.
-    pub fn tell<R: Wait>(&self, rt: &R, line: &str) {
-        self.err.lock(rt).tell(line);
-    }
-
     /// Tells that a line isn't drawn. The member goes on.
     pub fn refuse<R: Wait>(&self, rt: &R, number: u64) {
         let _ = self.print_fault(
@@ -154,11 +140,6 @@ impl<O: Write, E: Write> Desk<O, E> {
         }
     }
 
-    /// Returns the allocator for lines that are told.
-    pub fn alloc(&self) -> Global {
-        self.alloc
-    }
-
     /// Returns the member's settings.
     pub fn config(&self) -> Config {
         self.config
@@ -185,11 +166,6 @@ impl<O: Write, E: Write> Desk<O, E> {
         }
     }
 
-    /// Returns whether standard error is a terminal, whose window's title shows what goes on.
-    pub fn has_terminal(&self) -> bool {
-        self.has_terminal
-    }
-
     /// Returns whether nothing more is drawn: nothing more is printed, or the node has ended.
     pub fn is_over(&self) -> bool {
         self.is_closed() || self.ended.load(Ordering::SeqCst)
@@ -204,9 +180,38 @@ impl<O: Write, E: Write> Desk<O, E> {
     pub fn end(&self) {
         self.ended.store(true, Ordering::SeqCst);
     }
+}
 
-    /// Returns the flag that says whether the node has ended.
-    pub fn ended(&self) -> &AtomicBool {
+impl<O: Write, E: Write> Teller for Desk<O, E> {
+    fn tell<R: Wait>(&self, rt: &R, line: &str) {
+        self.err.lock(rt).tell(line);
+    }
+
+    // What is typed stands in the same window as lines, so no line of it would do. If out of memory, a title is left out.
+    fn show<R: Wait>(&self, rt: &R, tally: &Tally) {
+        if !self.has_terminal {
+            return;
+        }
+        let title = Title(tally.activity(self.others()));
+        if let Ok(text) = format!(in self.alloc; "{title}") {
+            self.err.lock(rt).show_title(text.as_str());
+        }
+    }
+
+    // The window gets the title back that it had.
+    fn close<R: Wait>(&self, rt: &R) {
+        self.err.lock(rt).restore_title();
+    }
+
+    fn me(&self) -> Member {
+        self.config.me()
+    }
+
+    fn alloc(&self) -> Global {
+        self.alloc
+    }
+
+    fn ended(&self) -> &AtomicBool {
         &self.ended
     }
 }

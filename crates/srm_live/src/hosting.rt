@@ -1,6 +1,7 @@
 //! The node of a live member, its page workers, and the thread that draws what is typed.
 
 ghost use Rattle.std.specs.Prelude.{◌≡◌, List, Option, None, Some, true, map, vec_len, IfOk, IfSome, IsOkAnd};
+ghost use Rattle.std.specs.Bool.{OnTrue};
 ghost use Rattle.std.specs.List.{AllByRecursion, list_all, list_any};
 ghost use Rattle.srm_names.specs.declared.limits.TheConstants.{PAGES};
 ghost use Rattle.srm_names.specs.declared.page_msg.PageMsg.{PageMsg as AMessage};
@@ -25,7 +26,8 @@ use srm_control::{PageCommands, PageControl, settle_control};
 use srm_member::{MemberFault, Recorded, Station, end_record, host_if, join_pens, settle_lanes};
 use srm_names::PageMsg;
 use srm_node::{Hosted, NodeEnds, PageSink, Worked};
-use srm_pages::Feed;
+use srm_pages::ends::Well;
+use srm_pages::{Feed, Inked};
 use srm_record::Written;
 use srm_script::ScriptFault;
 use srm_wire::Wire;
@@ -41,8 +43,9 @@ use std::time;
 ///
 /// `turns` is how many turns the node has, `pages` has the node's control. Returns why the run wasn't whole, or [`MemberFault::Record`] if it was and the file hasn't
 /// its whole record; `None` if it was and there is no file or it has. Then each worker took all that the node's
-/// journal gave in its slot, and its sink saw each of these messages; and the journal's draws are the strokes that are typed in the reader's bytes, in order, or a prefix
-/// of them, each on the page where who types stood by the node's answers to their commands.
+/// journal gave in its slot, and its sink saw each of these messages; and the journal's draws are all the strokes that the producer sent: those that are typed in the
+/// reader's bytes, in order, or a prefix of them, each on the page where who types stood by the node's answers to their commands. Where a whole run lacks one that was
+/// sent, the fault is [`ScriptFault::Memory`].
 pub fn host_live<R, X, F, P, S, I, O, E>(
     rt: &R,
     alloc: Global,
@@ -79,14 +82,15 @@ where
     desk.end();
     let typed = join_typing(rt, typing);
     match hosted {
-        Some((hosted, ends)) => settle(alloc, hosted, ends, typed),
+        Some((hosted, ends)) => settle(rt, alloc, hosted, ends, typed),
         None => Some(MemberFault::Script(ScriptFault::Memory)),
     }
 }
 
 // Why the run wasn't whole, or that its record isn't. If both are, both ends of each lane were put together, and the producers beside their stroke queue.
 #[tactic(auto, using(crate::proofs::Recorded::none_of))]
-fn settle<F: Write + OpenFile + Drop, P: Past<Entry> + Drop>(
+fn settle<R: Wait, F: Write + OpenFile + Drop, P: Past<Entry> + Drop>(
+    rt: &R,
     alloc: Global,
     hosted: Hosted<Written<F, P>, Vec<PageMsg>>,
     ends: NodeEnds,
@@ -101,13 +105,14 @@ fn settle<F: Write + OpenFile + Drop, P: Past<Entry> + Drop>(
     ensures recorded { result ≡ None → ((file : Option F) × IsRecorded F.contents hosted.history.begins hosted.history.journal.entries (lists_of hosted.worked.items) file) }
 {
     match typed {
-        Some(typed) => settle_typed(alloc, hosted, ends, typed),
+        Some(typed) => settle_typed(rt, alloc, hosted, ends, typed),
         None => Some(MemberFault::Script(ScriptFault::Memory)),
     }
 }
 
 #[tactic(auto, using(crate::proofs::Recorded::of_fault, crate::proofs::Recorded::of_record))]
-fn settle_typed<F: Write + OpenFile + Drop, P: Past<Entry> + Drop>(
+fn settle_typed<R: Wait, F: Write + OpenFile + Drop, P: Past<Entry> + Drop>(
+    rt: &R,
     alloc: Global,
     hosted: Hosted<Written<F, P>, Vec<PageMsg>>,
     ends: NodeEnds,
@@ -133,10 +138,8 @@ fn settle_typed<F: Write + OpenFile + Drop, P: Past<Entry> + Drop>(
     let recorded = end_record(alloc, history, worked.as_slice());
     match MemberFault::of_whole_run(end, worked.as_slice()) {
         Some(fault) => Some(fault),
-        None => {
-            put_together(feeds, worked, ends, typed);
-            unrecorded(recorded)
-        }
+        None if put_together(rt, feeds, worked, ends, typed) => unrecorded(recorded),
+        None => Some(MemberFault::Script(ScriptFault::Memory)),
     }
 }
 
@@ -152,13 +155,20 @@ pub fn unrecorded<F: Write + Drop>(recorded: Result<Recorded<F>, AllocError>) ->
     }
 }
 
-// Puts both ends of each lane together, the producers beside their stroke queue, and the control beside the node's end of it.
-fn put_together(feeds: Vec<Feed>, worked: Vec<Worked>, ends: NodeEnds, typed: TypedPens)
+// Puts both ends of each lane together, the producers beside their stroke queue, and the control beside the node's end of it. Whether all that the producers sent was
+// received.
+fn put_together<R: Wait>(
+    rt: &R,
+    feeds: Vec<Feed>,
+    worked: Vec<Worked>,
+    ends: NodeEnds,
+    typed: TypedPens,
+) -> bool
     requires lanes { AreEndsOfLanes feeds.items (map (λ w. w.tap) worked.items) }
     requires pens { (typed.first.well ≡ ends.well.well) × AllByRecursion (λ p. p.well ≡ ends.well.well) typed.others.items }
     requires lines { AreOnLines ends.commands typed.control }
     ensures takes { TakePrefixes feeds.items (map (λ w. w.tap) worked.items) }
-    ensures pens { IsReceivedOf ends.well.received typed.first × AllByRecursion (IsReceivedOf ends.well.received) typed.others.items }
+    ensures pens { OnTrue result (IsReceivedOf ends.well.received typed.first × AllByRecursion (IsReceivedOf ends.well.received) typed.others.items) }
     ensures answers { AreFirstOf ends.commands typed.control }
 {
     let TypedPens {
@@ -166,11 +176,24 @@ fn put_together(feeds: Vec<Feed>, worked: Vec<Worked>, ends: NodeEnds, typed: Ty
         others,
         control,
     } = typed;
-    let NodeEnds { mut well, commands } = ends;
+    let NodeEnds { well, commands } = ends;
     settle_lanes(feeds, worked);
-    well.join_pen(first);
-    join_pens(&mut well, others);
     settle_answers(control, commands);
+    received_all(rt, well, first, others)
+}
+
+// Whether all that these producers sent was received.
+fn received_all<R: Wait>(rt: &R, well: Well, first: Inked, others: Vec<Inked>) -> bool
+    requires first { first.well ≡ well.well }
+    requires others { AllByRecursion (λ p. p.well ≡ well.well) others.items }
+    ensures { OnTrue result (IsReceivedOf well.received first × AllByRecursion (IsReceivedOf well.received) others.items) }
+{
+    let mut well = well;
+    let (_, all) = well.join_pen(rt, first);
+    if !all {
+        return false;
+    }
+    join_pens(rt, &mut well, others)
 }
 
 // Puts a control beside the node's end of it, if there is one.

@@ -15,28 +15,27 @@ ghost use Rattle.srm_live.specs.LiveMembers.{LivesFrom, LivesWith, LivesWhole};
 ghost use Rattle.srm_live.specs.LiveStatuses.{IsLiveStatus, IsWholeEnd, IsWholeStatus, status_of_live};
 
 use crate::desk::Desk;
-use crate::dropped::ByCause;
 use crate::hosting::host_live;
 use crate::lingering::Staying;
 use crate::live_fault::LiveFault;
 use crate::live_sink::{Printing, printing_sinks};
-use crate::lost::Lost;
 use crate::need::Need;
 use crate::news::{Told, tell_news};
 use crate::shown_pages::ShownPages;
-use crate::telling::start_telling;
+use crate::teller::Teller;
+use crate::telling::{start_telling, tell_wire, told_by};
 use crate::unfinished::tell_unfinished;
 use crate::watched::Watched;
 use srm_agent::Entry;
 use srm_guard::{Guard, Seal};
 use srm_guarded::{read_key, seal_by};
-use srm_member::{MemberFault, Noting, Station, open_record, told_with};
+use srm_member::{MemberFault, Notes, Station, open_record, share_keeping, told_with};
 use srm_node::PageSink;
 use srm_options::NodeOptions;
 use srm_record::Written;
 use srm_script::ScriptFault;
 use srm_udp::{Rested, UdpWire};
-use srm_wire::{Dropped, Losses, Wire};
+use srm_wire::Wire;
 use srm_world::Past;
 use std::alloc::{AllocError, Global};
 use std::fs::OpenFile;
@@ -44,7 +43,7 @@ use std::io::{IsTerminal, Read, Write};
 use std::net::Net;
 use std::rt::Files;
 use std::sync::{Arc, Wait};
-use std::thread::{JoinHandle, Threads};
+use std::thread::Threads;
 use std::time;
 
 /// Runs a member with these options: draws each line of the input as it comes, by one producer, and prints what its page workers take as they take it. After the end
@@ -57,7 +56,7 @@ use std::time;
 /// cause of a failed bind or a failed call is always told. An input may return `WouldBlock` where nothing is there yet, and is asked again: after a millisecond, or at once if its read took
 /// as long. While a read waits, the member can't end.
 ///
-/// `err` gets who of the others is here, falls silent for ten seconds or leaves; once that the member was in the session before; why its address can't be bound or its socket failed; and at the end who wasn't heard
+/// `err` gets who of the others is here, falls silent for ten seconds or leaves; once that the member was in the session before; within a second why its record's file takes no more; why its address can't be bound or its socket failed; and at the end who wasn't heard
 /// leaving, which streams miss drawops, what the network refused and what was dropped. If `err` is a terminal, the title of its window says each second what goes on.
 ///
 /// A failing output or input and running out of memory end the reading; the member stays and leaves all the same, since others may need what it holds. Then `err` gets one fault: out of memory, else
@@ -75,7 +74,7 @@ where
     E: Write + IsTerminal + Send + Drop + 'static,
     ensures ends { IsLiveStatus result }
     ensures greatest { result ≤ WAS_BEFORE }
-    ensures whole { IsWholeStatus result → LivesWhole R.File.contents options (I.remaining reader) }
+    ensures whole { IsWholeStatus result → LivesWhole R.File.contents R.File.remaining options (I.remaining reader) }
 {
     let alloc = rt.alloc();
     match Arc::new(alloc, Desk::new(alloc, options.config, out, err)) {
@@ -100,7 +99,7 @@ where
     E: Write + Send + Drop + 'static,
     ensures ends { IsLiveStatus result }
     ensures greatest { result ≤ WAS_BEFORE }
-    ensures whole { IsWholeStatus result → LivesWhole R.File.contents options (I.remaining reader) }
+    ensures whole { IsWholeStatus result → LivesWhole R.File.contents R.File.remaining options (I.remaining reader) }
 {
     let Ok(sinks) = printing_sinks(rt, alloc, options.config.me(), desk) else {
         return print(rt, desk, &out_of_memory());
@@ -141,7 +140,7 @@ where
     O: Write + Send + Drop + 'static,
     E: Write + Send + Drop + 'static,
     requires { vec_len sinks ≡ PAGES }
-    ensures { IsWholeEnd result → LivesWith R.File.contents options (I.remaining reader) sinks.items }
+    ensures { IsWholeEnd result → LivesWith R.File.contents R.File.remaining options (I.remaining reader) sinks.items }
 {
     let turns = options.turns;
     let Ok(staying) = staying_of(alloc, &options) else {
@@ -151,17 +150,17 @@ where
         Ok(key) => key,
         Err(fault) => return Some(LiveFault::Member(MemberFault::from(fault))),
     };
-    let record = match open_record(rt, &options) {
-        Ok(record) => record,
-        Err(fault) => return Some(LiveFault::Member(fault)),
-    };
     let seal = match seal_by(rt, alloc, key, options.config.me()) {
         Ok(seal) => seal,
         Err(fault) => return Some(LiveFault::Member(MemberFault::from(fault))),
     };
+    let record = match open_record(rt, alloc, &options) {
+        Ok(record) => record,
+        Err(fault) => return Some(LiveFault::Member(fault)),
+    };
     match bind(rt, alloc, options, seal, record, &staying, desk) {
-        Ok((station, noting)) => run_bound(
-            rt, alloc, station, noting, reader, sinks, staying, turns, desk,
+        Ok((station, notes)) => run_bound(
+            rt, alloc, station, notes, reader, sinks, staying, turns, desk,
         ),
         Err(fault) => Some(LiveFault::Member(fault)),
     }
@@ -173,7 +172,7 @@ fn run_bound<R, X, F, P, S, I, O, E>(
     rt: &R,
     alloc: Global,
     station: Station<R, X, Written<F, P>>,
-    noting: Noting,
+    notes: Notes,
     reader: I,
     sinks: Vec<S>,
     staying: Staying,
@@ -198,21 +197,13 @@ where
         return Some(out_of_memory());
     };
     let pages = ShownPages::new(alloc, control);
-    let telling = start_telling(rt, desk);
+    let telling = start_telling(rt, desk, share_keeping(&notes.record));
     let run = host_live(
         rt, alloc, station, pages, sinks, reader, staying, turns, desk,
     );
     let told = told_by(rt, telling);
     let was_before = tell_last(rt, told, desk);
-    end(rt, run, &noting, was_before, desk)
-}
-
-// What the thread told that tells what changes, if there was one.
-fn told_by<R: Threads>(rt: &R, telling: Option<JoinHandle<Told>>) -> Told {
-    match telling {
-        Some(telling) => telling.join(rt),
-        None => Told::nothing(),
-    }
+    end(rt, run, &notes, was_before, desk)
 }
 
 // Tells what wasn't told yet, what wasn't heard to its end, and what was lost on its way out. Whether the member was in the session before.
@@ -222,29 +213,8 @@ fn tell_last<R: Wait, O: Write, E: Write>(rt: &R, told: Told, desk: &Desk<O, E>)
     };
     let _ = tell_news(rt, tally, told, desk);
     tell_unfinished(rt, tally, desk);
-    tell_lost(rt, tally.losses(), desk);
-    tell_dropped(rt, tally.dropped(), desk);
+    tell_wire(rt, tally, desk);
     tally.was_before()
-}
-
-// Tells what was lost on its way out, if anything was. If out of memory, the line is left out.
-fn tell_lost<R: Wait, O: Write, E: Write>(rt: &R, losses: Losses, desk: &Desk<O, E>) {
-    if losses == Losses::none() {
-        return;
-    }
-    if let Ok(line) = format!(in desk.alloc(); "srm: lost on the way out: {}\n", Lost(losses)) {
-        desk.tell(rt, line.as_str());
-    }
-}
-
-// Tells what was received and dropped, if anything was. If out of memory, the line is left out.
-fn tell_dropped<R: Wait, O: Write, E: Write>(rt: &R, dropped: Dropped, desk: &Desk<O, E>) {
-    if dropped == Dropped::none() {
-        return;
-    }
-    if let Ok(line) = format!(in desk.alloc(); "srm: dropped: {}\n", ByCause(dropped)) {
-        desk.tell(rt, line.as_str());
-    }
 }
 
 // How long the member stays, by its options. Who is alone lingers for nobody.
@@ -269,12 +239,12 @@ fn bind<R, F, O, E>(
 ) -> Result<
     (
         Station<R, Rested<R, Guard<UdpWire>>, Written<F, Watched>>,
-        Noting,
+        Notes,
     ),
     MemberFault,
 >
 where
-    R: Net + time::Clock + Copy + Drop,
+    R: Net + Files + time::Clock + Copy + Drop,
     F: Write + Drop,
     O: Write,
     E: Write,
@@ -291,12 +261,12 @@ where
 }
 
 // Prints the end of a whole run. Why it was none, by why the node's run wasn't and what befell the streams, and whether the member was in the session before. A wire that
-// failed is told with the call that failed.
+// failed is told with the call that failed, and a record that lacks something with its path and the cause.
 #[tactic(auto, using(crate::proofs::LiveMembers::whole_end))]
 fn end<R: Wait, O: Write, E: Write>(
     rt: &R,
     run: Option<MemberFault>,
-    noting: &Noting,
+    notes: &Notes,
     was_before: bool,
     desk: &Desk<O, E>,
 ) -> Option<LiveFault>
@@ -305,6 +275,6 @@ fn end<R: Wait, O: Write, E: Write>(
     if run.is_none() {
         desk.print_gone(rt);
     }
-    let run = told_with(run, noting);
+    let run = told_with(run, desk.alloc(), notes);
     LiveFault::of_end(MemberFault::of_live(run, desk.noted()), was_before)
 }

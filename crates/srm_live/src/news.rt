@@ -3,12 +3,11 @@
 ghost use Rattle.std.specs.Prelude.{◌≡◌, option_map};
 ghost use Rattle.srm_live.specs.News as spec;
 
-use crate::desk::Desk;
 use crate::presence::{Presence, Standing};
 use crate::tally::Tally;
+use crate::teller::Teller;
 use srm_names::{MEMBERS, Member};
 use srm_wire::Dropped;
-use std::io::Write;
 use std::sync::Wait;
 
 /// What was told so far.
@@ -32,12 +31,7 @@ impl Told {
 
 /// Tells what changed since: who of the others is here, fell silent or left, that the member with this number was in the session before, and why the first datagram was dropped. If out
 /// of memory, a line is left out.
-pub fn tell_news<R: Wait, O: Write, E: Write>(
-    rt: &R,
-    tally: &Tally,
-    told: Told,
-    desk: &Desk<O, E>,
-) -> Told {
+pub fn tell_news<R: Wait, T: Teller>(rt: &R, tally: &Tally, told: Told, teller: &T) -> Told {
     let now = Told {
         presence: tally.presence(),
         was_before: tally.was_before(),
@@ -50,29 +44,24 @@ pub fn tell_news<R: Wait, O: Write, E: Write>(
         if let Some(member) = Member::new(number) {
             let standing = now.presence.standing(member);
             if let Some(news) = news_of(told.presence.standing(member), standing) {
-                tell(rt, desk, member, news);
+                tell(rt, teller, member, news);
             }
         }
     }
     if now.was_before && !told.was_before {
         tell(
             rt,
-            desk,
-            desk.config().me(),
+            teller,
+            teller.me(),
             "was in this session before: use another number or another session",
         );
     }
-    tell_first_dropped(rt, desk, told.dropped, now.dropped);
+    tell_first_dropped(rt, teller, told.dropped, now.dropped);
     now
 }
 
 // Tells why datagrams are dropped as the first is, where the member's options may be wrong.
-fn tell_first_dropped<R: Wait, O: Write, E: Write>(
-    rt: &R,
-    desk: &Desk<O, E>,
-    told: Dropped,
-    now: Dropped,
-) {
+fn tell_first_dropped<R: Wait, T: Teller>(rt: &R, teller: &T, told: Dropped, now: Dropped) {
     for (before, now, line) in [
         (
             told.untagged.saturating_sub(told.older),
@@ -101,15 +90,15 @@ fn tell_first_dropped<R: Wait, O: Write, E: Write>(
         ),
     ] {
         if before == 0 && now > 0 {
-            desk.tell(rt, line);
+            teller.tell(rt, line);
         }
     }
 }
 
-fn tell<R: Wait, O: Write, E: Write>(rt: &R, desk: &Desk<O, E>, member: Member, news: &str) {
+fn tell<R: Wait, T: Teller>(rt: &R, teller: &T, member: Member, news: &str) {
     let number = member.number();
-    if let Ok(line) = format!(in desk.alloc(); "srm: member {number} {news}\n") {
-        desk.tell(rt, line.as_str());
+    if let Ok(line) = format!(in teller.alloc(); "srm: member {number} {news}\n") {
+        teller.tell(rt, line.as_str());
     }
 }
 

@@ -8,6 +8,7 @@ use crate::command::Command;
 use crate::cut::ReadingEnd;
 use crate::desk::Desk;
 use crate::pages_told::tell_pages;
+use crate::teller::Teller;
 use crate::typist::Typist;
 use crate::who::tell_who;
 use srm_control::{PageCommand, PageRefusal};

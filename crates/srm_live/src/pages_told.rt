@@ -3,6 +3,7 @@
 use crate::desk::Desk;
 use crate::shown_page::ShownPage;
 use crate::tally::Tally;
+use crate::teller::Teller;
 use srm_names::Page;
 use std::io::Write;
 use std::sync::Wait;

@@ -10,6 +10,7 @@ use crate::cut::ReadingEnd;
 use crate::desk::Desk;
 use crate::lingering::Staying;
 use crate::obeying::obey;
+use crate::teller::Teller;
 use crate::typed::{Line, Typed};
 use crate::typist::{Finished, Typist};
 use srm_member::{Waking, wake};

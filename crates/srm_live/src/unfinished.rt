@@ -5,6 +5,7 @@ use crate::holes::PageHoles;
 use crate::presence::{Presence, Standing};
 use crate::shown_page::ShownPage;
 use crate::tally::Tally;
+use crate::teller::Teller;
 use srm_agent::Config;
 use srm_names::{MEMBERS, Member};
 use std::fmt;

@@ -3,6 +3,7 @@
 use crate::desk::Desk;
 use crate::presence::Standing;
 use crate::tally::Tally;
+use crate::teller::Teller;
 use srm_names::Member;
 use std::fmt;
 use std::io::Write;
