@@ -1,6 +1,6 @@
 -- A whole run of a member with a board, put together from what its parts tell.
-use Rattle.std.proofs.Common.{◌≡◌, ℕ, Bool, true, List, length, map, refl, ap, sym, ◌∙◌, subst, arith, lit≤}
-use Rattle.std.specs.Prelude.{◌≤◌, Option, Some, None, MatchResult}
+use Rattle.std.proofs.Common.{◌≡◌, ℕ, Bool, true, List, length, map, refl, ap, sym, ◌∙◌, subst, inl, inr, arith}
+use Rattle.std.specs.Prelude.{Option, Some, None, MatchResult}
 use Rattle.std.specs.List.{list_all, list_any, zip}
 use Rattle.srm_names.specs.declared.limits.TheConstants.{PAGES}
 use Rattle.srm_names.specs.declared.page_msg.PageMsg.{PageMsg}
@@ -23,17 +23,19 @@ use Rattle.srm_world.specs.RecordStarts.{RecordStart}
 use Rattle.srm_record.specs.Begun.{IsRecorded}
 use Rattle.srm_member.specs.declared.fault.MemberFault.{MemberFault}
 use Rattle.srm_member.specs.Stations.{BeginsIn, HasNewEnds, IsNewStation}
-use Rattle.srm_member.specs.Statuses.{fault_of_lists, fault_of, IsRecordedEnd}
+use Rattle.srm_member.specs.Statuses.{IsRecordedEnd, IsToldOf, fault_of, fault_of_lists}
 use Rattle.srm_member.specs.WholeRuns.{IsWholeHost, TakePrefixes}
-use Rattle.srm_member.proofs.MemberRuns.{status_of_some}
 use Rattle.srm_member.proofs.WholeRuns.{hosted_whole, whole_host_ends}
 use Rattle.srm_member.proofs.WholeTakes.{of_lists, lists_closed}
 use Rattle.srm_live.specs.LiveMembers.{MemberNode}
+use Rattle.srm_live.specs.LiveStatuses.{IsWholeStatus}
+use Rattle.srm_live.proofs.LiveMembers as whole
+use Rattle.srm_live.proofs.LiveMembers.{told_none}
 use Rattle.srm_live.proofs.Recorded as live
 use Rattle.srm_board.specs.declared.board_fault.BoardFault.{BoardFault}
-use Rattle.srm_board.specs.declared.board_fault.BoardFault.TheVariants.{Member, Serving}
+use Rattle.srm_board.specs.declared.board_fault.BoardFault.TheVariants.{Member, Serving, WasBefore}
 use Rattle.srm_board.specs.BoardRuns.{IsBoardStation, MayHaveControl}
-use Rattle.srm_board.specs.BoardStatuses.{status_of_board}
+use Rattle.srm_board.specs.BoardStatuses.{IsWholeEnd, fault_of_end, status_of_board}
 
 -- without a fault the node ran to its end, and its workers took all that its journal gave
 pub board_run : {P L S X C F : Type 0} (calls : Calls X C) (kinds : Kinds L S) (turns : ℕ) (node : NodeView X C) (taps : List TapView) (pens : List PenView) (sinks : List S) (left : NodeEnds) (h : Hosted P L) (lacks closed : Bool) (Fails : NodeFault → Type 0) (contents : F → Option (List ℕ)) (begins : Option RecordStart) (file : Option F)
@@ -89,10 +91,35 @@ board_station options seal first node taps now_taps pens now_pens new controlled
 
 -- THE STATUS
 
--- no fault has status 0
-status_of_any : (f : BoardFault) → 1 ≤ status_of_board f
-status_of_any (Member f) = status_of_some f
-status_of_any (Serving address cause) = lit≤ tt
+-- a fault has a status by itself
+pub never_whole : (f : MemberFault) (status : ℕ) (P : Type 0) → status ≡ status_of_board (Member f) → IsWholeStatus status → P
+never_whole = whole.never_whole
 
-pub never_0 : (f : BoardFault) (status : ℕ) (P : Type 0) → status ≡ status_of_board f → status ≡ 0 → P
-never_0 f status P is none = absurd (omega (arith, status_of_any f, is, none))
+five_alone : (f : BoardFault) (status : ℕ) (P : Type 0) → (f ≡ WasBefore → P) → status ≡ status_of_board f → IsWholeStatus status → P
+five_alone (Member f) status P before is which = never_whole f status P is which
+five_alone (Serving address cause) status P before is (inl none) = let three : status ≡ 3 = is in absurd (omega (arith, three, none))
+five_alone (Serving address cause) status P before is (inr five) = let three : status ≡ 3 = is in let was : status ≡ 5 = five in absurd (omega (arith, three, was))
+five_alone WasBefore status P before is which = before refl
+
+-- so who ends with the status of a whole run had one
+pub whole_by_status : (f : BoardFault) (end : Option BoardFault) (status : ℕ) (P : Type 0) → end ≡ Some f → status ≡ status_of_board f → (IsWholeEnd end → P) → IsWholeStatus status → P
+whole_by_status f end status P here is whole which = five_alone f status P (λ before. whole (inr (here ∙ ap Some before))) is which
+
+-- and no run was whole that ended with one of a member without a board
+pub not_whole : (f : MemberFault) (end : Option BoardFault) (P : Type 0) → end ≡ Some (Member f) → IsWholeEnd end → P
+not_whole f end P is (inl none) = let k : Some (Member f) ≡ None = sym is ∙ none in cc
+not_whole f end P is (inr before) = let k : Some (Member f) ≡ Some WasBefore = sym is ∙ before in cc
+
+end_none : (run : Option MemberFault) (was_before : Bool) → IsWholeEnd (fault_of_end run was_before) → run ≡ None
+end_none None was_before whole = refl
+end_none (Some f) was_before (inl none) = let k : Some (Member f) ≡ None = none in cc
+end_none (Some f) was_before (inr before) = let k : Some (Member f) ≡ Some WasBefore = before in cc
+
+-- what ended a run that ends well: nothing did
+pub whole_end : (run told : Option MemberFault) (was_before : Bool) (result : Option BoardFault) → IsToldOf run told → result ≡ fault_of_end told was_before → IsWholeEnd result → run ≡ None
+whole_end run told was_before result of is whole = told_none run told of (end_none told was_before (subst IsWholeEnd is whole))
+
+-- a board that can't be served runs no member
+pub not_served : (f : BoardFault) (end : Option BoardFault) (P : Type 0) → (f ≡ WasBefore → ⊥) → end ≡ Some f → IsWholeEnd end → P
+not_served f end P never is (inl none) = let k : Some f ≡ None = sym is ∙ none in cc
+not_served f end P never is (inr before) = let k : Some f ≡ Some WasBefore = sym is ∙ before in absurd (never cc)

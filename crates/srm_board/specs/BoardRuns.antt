@@ -6,6 +6,7 @@ use Rattle.srm_control.specs.Ends.{CommandsView, new_commands}
 use Rattle.srm_udp.specs.Resting.{new_rested}
 use Rattle.srm_guard.specs.Seals.{SealView}
 use Rattle.srm_guarded.specs.Guarding.{IsSealBy, guarded_wire}
+use Rattle.srm_guarded.specs.Keying.{IsKeyRead}
 use Rattle.srm_options.specs.declared.node_options.NodeOptions.{NodeOptions}
 use Rattle.srm_node.specs.Nodes.{NodeView}
 use Rattle.srm_member.specs.MemberRuns.{IsStoredIf, member_calls}
@@ -24,7 +25,7 @@ pub record IsBoardStation (options : NodeOptions) (seal : Option SealView) (node
   pub controlled : MayHaveControl first node
 
 -- Such a node ran to its end, and its page workers took all that its journal gave. The file that was opened for its record, if one was, has all of it.
-pub record RunsWithSeal {F : Type 0} (contents : F → Option (List ℕ)) (opened : Option F) (options : NodeOptions) (seal : Option SealView) : Type 0 where
+pub record RunsWithFile {F : Type 0} (contents : F → Option (List ℕ)) (opened : Option F) (options : NodeOptions) (seal : Option SealView) : Type 0 where
   pub node : MemberNode
   pub taps : List TapView
   pub pens : List PenView
@@ -33,10 +34,14 @@ pub record RunsWithSeal {F : Type 0} (contents : F → Option (List ℕ)) (opene
   pub whole : IsWholeHost member_calls options.turns node took
   pub stored : IsStoredIf contents (is_some opened) options.seed node.journal.start whole.last.journal.entries took
 
--- Such a node has a new seal by this key, if there is one.
-abbrev pub RunsWithKey : {F : Type 0} → (F → Option (List ℕ)) → Option F → NodeOptions → Option (List ℕ) → Type 0
-RunsWithKey contents opened options key = (seal : Option SealView) × IsSealBy key options.config.me seal × RunsWithSeal contents opened options seal
+-- Such a node has a record if its options name a file for it.
+abbrev pub RunsWithSeal : {F : Type 0} → (F → Option (List ℕ)) → NodeOptions → Option SealView → Type 0
+RunsWithSeal {F} contents options seal = (opened : Option F) × (is_some opened ≡ is_some options.«record») × RunsWithFile contents opened options seal
 
--- And it had a key if its options name a file of one, and a record if they name a file for it.
-abbrev pub IsWholeBoardRun : {F : Type 0} → (F → Option (List ℕ)) → NodeOptions → Type 0
-IsWholeBoardRun {F} contents options = (key : Option (List ℕ)) × (is_some key ≡ is_some options.guard.key) × (opened : Option F) × (is_some opened ≡ is_some options.«record») × RunsWithKey contents opened options key
+-- It has a new seal by this key, if there is one.
+abbrev pub RunsWithKey : {F : Type 0} → (F → Option (List ℕ)) → NodeOptions → Option (List ℕ) → Type 0
+RunsWithKey contents options key = (seal : Option SealView) × IsSealBy key options.config.me seal × RunsWithSeal contents options seal
+
+-- And its key is all of a file if its options name one.
+abbrev pub IsWholeBoardRun : {F : Type 0} → (F → Option (List ℕ)) → (F → Option (List ℕ)) → NodeOptions → Type 0
+IsWholeBoardRun contents remaining options = (key : Option (List ℕ)) × (is_some key ≡ is_some options.guard.key) × IsKeyRead remaining options.guard.key key × RunsWithKey contents options key

@@ -10,12 +10,18 @@ use Rattle.srm_member.specs.declared.fault.MemberFault.TheVariants.{Script, Wire
 use Rattle.srm_live.specs.LiveMembers.{MemberNode}
 use Rattle.srm_board.specs.BoardRuns.{MayHaveControl}
 use Rattle.srm_slate.specs.declared.easel.Drawn.TheVariants.{Taken, Full, Over}
-use Rattle.srm_board.specs.declared.board_fault.BoardFault.TheVariants.{Member, Serving}
-use Rattle.srm_board.specs.BoardStatuses.{fault_of_serve, out_of_memory, status_of_board}
+use Rattle.srm_board.specs.declared.board_fault.BoardFault.TheVariants.{Member, Serving, WasBefore}
+use Rattle.srm_board.specs.BoardStatuses.{fault_of_end, fault_of_serve, out_of_memory, status_of_board}
 use Rattle.srm_board.specs.Inks.{InkDraws, InkView, with_stroke}
 
-statuses : map status_of_board (Member Wire ∷ Member Turns ∷ out_of_memory ∷ []) ≡ 3 ∷ 4 ∷ 4 ∷ []
+statuses : map status_of_board (Member Wire ∷ Member Turns ∷ out_of_memory ∷ WasBefore ∷ []) ≡ 3 ∷ 4 ∷ 4 ∷ 5 ∷ []
 statuses = refl
+
+who_was_there_before_is_told : fault_of_end None true ≡ Some WasBefore
+who_was_there_before_is_told = refl
+
+a_fault_comes_first : fault_of_end (Some Wire) true ≡ Some (Member Wire)
+a_fault_comes_first = refl
 
 an_address_in_use : (address : SocketAddr) → fault_of_serve address kind.AddrInUse ≡ Serving address kind.AddrInUse
 an_address_in_use address = refl

@@ -9,7 +9,7 @@ use crate::turning::Turning;
 use crate::watching::Watching;
 use srm_agent::Entry;
 use srm_guard::{Guard, Seal};
-use srm_member::{MemberFault, Noting, Station};
+use srm_member::{MemberFault, Notes, Station};
 use srm_options::NodeOptions;
 use srm_record::Written;
 use srm_script::ScriptFault;
@@ -19,13 +19,16 @@ use srm_world::Past;
 use std::alloc::{AllocError, Global};
 use std::io::Write;
 use std::net::Net;
+use std::rt::Files;
 use std::sync::{Arc, Wait};
 use std::time;
 
 /// Binds the member to its own address, and makes its station: its node keeps no entry, shows each to the slate, and leaves as soon as its producers are done. Its wire
-/// has the guard that the options ask for, and `seal`. Its entries go to `file`, if there is one. Returns where the wire notes its first failure too.
+/// has the guard that the options ask for, and `seal`. Its entries go to `file`, if there is one, which was made at the path that the options name. Returns where
+/// it notes what fails too.
 ///
-/// Fails with [`MemberFault::Binding`] and the cause if the address can't be bound, with [`MemberFault::Wire`] if the clock can't be read, and if out of memory.
+/// Fails with [`MemberFault::Binding`] and the cause if the address can't be bound, with [`MemberFault::Wire`] if the clock can't be read, and if out of memory. The file
+/// is removed then.
 pub fn bind<R, F>(
     rt: &R,
     alloc: Global,
@@ -36,12 +39,12 @@ pub fn bind<R, F>(
 ) -> Result<
     (
         Station<R, Rested<R, Guard<UdpWire>>, Written<F, Watching<R>>>,
-        Noting,
+        Notes,
     ),
     MemberFault,
 >
 where
-    R: Net + time::Clock + Wait + Copy + Drop,
+    R: Net + Files + time::Clock + Wait + Copy + Drop,
     F: Write + Drop,
     ensures station { IfOk result (λ b. IsBoardStation options seal b.0.node.view b.0.taps.items b.0.pens.items) }
     ensures begins { IfOk result (λ b. BeginsIn F.contents file options.seed b.0.node.view.journal.start b.0.node.begins) }
@@ -78,12 +81,12 @@ fn bind_watched<R, F>(
 ) -> Result<
     (
         Station<R, Rested<R, Guard<UdpWire>>, Written<F, Watching<R>>>,
-        Noting,
+        Notes,
     ),
     MemberFault,
 >
 where
-    R: Net + time::Clock + Wait + Copy + Drop,
+    R: Net + Files + time::Clock + Wait + Copy + Drop,
     F: Write + Drop,
     requires { watching.past ≡ [] }
     ensures station { IfOk result (λ b. IsBoardStation options seal b.0.node.view b.0.taps.items b.0.pens.items) }
@@ -94,7 +97,7 @@ where
     // The cause of a failed bind or call is always told.
     options.verbose = true;
     match Station::bind(rt, alloc, options, seal, file, watching) {
-        Ok((station, noting)) => Ok((connect(rt, alloc, station, &shared.turning), noting)),
+        Ok((station, notes)) => Ok((connect(rt, alloc, station, &shared.turning), notes)),
         Err(fault) => Err(fault),
     }
 }

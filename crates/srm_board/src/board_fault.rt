@@ -1,10 +1,12 @@
-//! Why a member with a board isn't run, or not to its end.
+//! Why a member with a board isn't run, or not to its end, or not as it should be.
 
 ghost use Rattle.std.specs.Prelude.{◌≡◌, ◌≤◌};
 ghost use Rattle.std.specs.IoError.{error_kind};
-ghost use Rattle.srm_script.specs.declared.status.TheConstants.{RAN_OUT};
-ghost use Rattle.srm_board.specs.BoardStatuses.{fault_of_serve, out_of_memory, status_of_board};
+ghost use Rattle.srm_live.specs.declared.live_fault.TheConstants.{WAS_BEFORE};
+ghost use Rattle.srm_board.specs.declared.board_fault.BoardFault.TheVariants.{WasBefore as TheWasBefore};
+ghost use Rattle.srm_board.specs.BoardStatuses.{fault_of_end, fault_of_serve, out_of_memory, status_of_board};
 
+use srm_live::WAS_BEFORE;
 use srm_member::MemberFault;
 use srm_script::{ScriptFault, WIRE_FAILED, print_fault};
 use std::alloc::AllocError;
@@ -13,7 +15,7 @@ use std::io::{ErrorKind, Write};
 use std::net::SocketAddr;
 use thiserror::Error;
 
-/// Why a member with a board isn't run, or not to its end. Its text is the line that goes to standard error.
+/// Why a member with a board isn't run, or not to its end, or not as it should be. Its text is the line that goes to standard error.
 #[derive(Debug, Drop, Error)]
 pub enum BoardFault {
     /// As of a member without a board: its key file can't be used, its address can't be bound, its run isn't whole, or memory ran out.
@@ -22,6 +24,9 @@ pub enum BoardFault {
     /// The board can't be served at this address, for this cause.
     #[error("srm: cannot serve on {0}: {1}")]
     Serving(SocketAddr, ErrorKind),
+    /// The run was whole, but the member was in the session before. That is told as it is heard.
+    #[error("")]
+    WasBefore,
 }
 
 impl BoardFault {
@@ -34,7 +39,8 @@ impl BoardFault {
 
     /// Returns the fault of a board that can't be served at an address, with its cause; out of memory is one by itself. Takes no memory.
     pub fn of_serve(address: SocketAddr, error: io::Error) -> BoardFault
-        ensures { result ≡ fault_of_serve address (error_kind error) }
+        ensures fault { result ≡ fault_of_serve address (error_kind error) }
+        ensures ends { result ≡ TheWasBefore → ⊥ }
     {
         match error.kind() {
             ErrorKind::OutOfMemory => BoardFault::memory(),
@@ -42,14 +48,27 @@ impl BoardFault {
         }
     }
 
-    /// Prints the fault to `err`, as a line, and returns the status that the program ends with: 1, 3 or 4. An `err` that fails changes nothing.
+    /// Returns the fault of a run that ended with this fault, or whole: a whole run of a member that was in the session before is `WasBefore`.
+    pub fn of_end(fault: Option<MemberFault>, was_before: bool) -> Option<BoardFault>
+        ensures { result ≡ fault_of_end fault was_before }
+    {
+        match fault {
+            Some(fault) => Some(BoardFault::Member(fault)),
+            None if was_before => Some(BoardFault::WasBefore),
+            None => None,
+        }
+    }
+
+    /// Prints the fault to `err`, as a line, unless it was told before, and returns the status that the program ends with: 1, 3, 4 or [`WAS_BEFORE`]. An `err` that fails
+    /// changes nothing.
     pub fn print<E: Write>(&self, err: &mut E) -> u8
         ensures status { result ≡ status_of_board self.now }
-        ensures greatest { result ≤ RAN_OUT }
+        ensures greatest { result ≤ WAS_BEFORE }
     {
         match self {
             BoardFault::Member(fault) => fault.print(err),
             BoardFault::Serving(..) => print_fault(self, err, WIRE_FAILED),
+            BoardFault::WasBefore => WAS_BEFORE,
         }
     }
 }

@@ -1,29 +1,31 @@
 //! A board from its options to its end.
 
-ghost use Rattle.std.specs.Prelude.{◌≡◌, ◌≤◌, List, Option, None, vec_len};
+ghost use Rattle.std.specs.Prelude.{◌≡◌, ◌≤◌, List, Option, vec_len};
 ghost use Rattle.srm_record.specs.Begun.{IsRecorded};
 ghost use Rattle.srm_names.specs.declared.limits.TheConstants.{PAGES};
 ghost use Rattle.srm_names.specs.declared.page_msg.PageMsg.{PageMsg as AMessage};
-ghost use Rattle.srm_script.specs.declared.status.TheConstants.{RAN_OUT};
 ghost use Rattle.srm_node.specs.Calls.{calls_of};
 ghost use Rattle.srm_udp.specs.Clocks.{NeverFalls};
 ghost use Rattle.srm_member.specs.Stations.{HasNewEnds};
 ghost use Rattle.srm_member.specs.WholeRuns.{IsWholeHost};
-ghost use Rattle.srm_board.specs.BoardRuns.{IsWholeBoardRun, RunsWithKey, RunsWithSeal};
-ghost use Rattle.srm_board.specs.BoardStatuses.{IsBoardStatus};
+ghost use Rattle.srm_live.specs.declared.live_fault.TheConstants.{WAS_BEFORE};
+ghost use Rattle.srm_live.specs.LiveStatuses.{IsWholeStatus};
+ghost use Rattle.srm_board.specs.BoardRuns.{IsWholeBoardRun, RunsWithFile, RunsWithKey, RunsWithSeal};
+ghost use Rattle.srm_board.specs.BoardStatuses.{IsBoardStatus, IsWholeEnd};
 
 use crate::binding::bind;
+use crate::board_desk::BoardDesk;
 use crate::board_fault::BoardFault;
 use crate::hosting::host;
 use crate::place::Place;
 use crate::preparing::{Prepared, Shared, prepare};
 use crate::serving::Opening;
-use crate::telling::tell_wire;
+use crate::telling::start_telling;
 use srm_agent::Entry;
 use srm_guard::{Key, Seal};
 use srm_guarded::{read_key, seal_by};
-use srm_live::{Need, Staying};
-use srm_member::{MemberFault, Station, open_record, told_with};
+use srm_live::{Need, Staying, Tally, Told, tell_news, tell_wire, told_by};
+use srm_member::{MemberFault, Notes, Station, open_record, share_keeping, told_with};
 use srm_options::{BoardOptions, NodeOptions};
 use srm_record::Written;
 use srm_wire::Wire;
@@ -42,13 +44,15 @@ use std::time;
 /// what it holds, as the options' `linger` says, and leaves with a farewell. Its wire drops what the options' `guard` says. The options' `stay`, `live` and `verbose`
 /// have no effect.
 ///
-/// `err` gets the address of the page once, then at the end what the network refused and what was dropped, by cause, and a fault if there was one.
+/// `err` gets the address of the page once; within a second, once each, that the member was in the session before, why its first datagrams are dropped and why its record's
+/// file takes no more; at the end what the network refused and what was dropped, by cause; and a fault if there was one.
 ///
-/// Returns the program's status: 0; 1 if the key file can't be used, or the record can't be made or written whole; 3 if the board can't be served at its address, the member's address can't be bound, or the socket
-/// or the clock fails, with the call that failed; 4 if memory ran out, a worker's too, or all turns were spent. All threads that it started have ended then. At status 0 the
+/// Returns the program's status: 0; 1 if the key file can't be used, or the record can't be made or written whole; 3 if the board can't be served at its address, the
+/// member's address can't be bound, or the socket or the clock fails, with the call that failed; 4 if memory ran out, a worker's too, or all turns were spent;
+/// [`WAS_BEFORE`](srm_live::WAS_BEFORE), 5, if all went well but the member was in the session before. All threads that it started have ended then. At status 0 and 5 the
 /// member's node ran to its end over the wire of these options, each page worker took all that its journal gave, and its record is stored if the options name a file for it.
-#[tactic(auto, using(crate::proofs::BoardRuns::never_0))]
-pub fn run_board<R, I, E: Write>(rt: &R, options: BoardOptions, input: Option<I>, err: &mut E) -> u8
+#[tactic(auto, using(crate::proofs::BoardRuns::never_whole))]
+pub fn run_board<R, I, E>(rt: &R, options: BoardOptions, input: Option<I>, err: E) -> u8
 where
     R: Net<Listener = TcpListener, Stream = TcpStream>
         + Files
@@ -62,29 +66,65 @@ where
         + Drop
         + 'static,
     I: Read + Send + Drop + 'static,
+    E: Write + Send + Drop + 'static,
     ensures ends { IsBoardStatus result }
-    ensures greatest { result ≤ RAN_OUT }
-    ensures whole { result ≡ 0 → IsWholeBoardRun R.File.contents options.node }
+    ensures greatest { result ≤ WAS_BEFORE }
+    ensures whole { IsWholeStatus result → IsWholeBoardRun R.File.contents R.File.remaining options.node }
 {
     let alloc = rt.alloc();
     let place = Place {
         http: options.http,
         has_token: options.has_token,
     };
-    match run(rt, alloc, options.node, place, input, err) {
-        Some(fault) => fault.print(err),
-        None => 0,
+    let desk = BoardDesk::new(alloc, options.node.config.me(), err);
+    match Arc::new(alloc, desk) {
+        Ok(desk) => run_at(rt, alloc, options.node, place, input, &desk),
+        Err(failed) => failed.value.print_fault(rt, &BoardFault::memory()),
     }
 }
 
-// Runs the member. Returns why it wasn't run to its end, if it wasn't.
-fn run<R, I, E: Write>(
+// Runs the member at a desk, and returns its status.
+#[tactic(auto, using(crate::proofs::BoardRuns::whole_by_status))]
+fn run_at<R, I, E>(
     rt: &R,
     alloc: Global,
     options: NodeOptions,
     place: Place,
     input: Option<I>,
-    err: &mut E,
+    desk: &Arc<BoardDesk<E>, Global>,
+) -> u8
+where
+    R: Net<Listener = TcpListener, Stream = TcpStream>
+        + Files
+        + RandomSource
+        + time::Clock
+        + Threads
+        + Wait
+        + Copy
+        + Send
+        + Drop
+        + 'static,
+    I: Read + Send + Drop + 'static,
+    E: Write + Send + Drop + 'static,
+    ensures ends { IsBoardStatus result }
+    ensures greatest { result ≤ WAS_BEFORE }
+    ensures whole { IsWholeStatus result → IsWholeBoardRun R.File.contents R.File.remaining options }
+{
+    match run(rt, alloc, options, place, input, desk) {
+        Some(fault) => desk.print_fault(rt, &fault),
+        None => 0,
+    }
+}
+
+// Runs the member. Returns why it wasn't run to its end, or not as it should be, if so.
+#[tactic(auto, using(crate::proofs::BoardRuns::not_whole))]
+fn run<R, I, E>(
+    rt: &R,
+    alloc: Global,
+    options: NodeOptions,
+    place: Place,
+    input: Option<I>,
+    desk: &Arc<BoardDesk<E>, Global>,
 ) -> Option<BoardFault>
 where
     R: Net<Listener = TcpListener, Stream = TcpStream>
@@ -98,48 +138,70 @@ where
         + Drop
         + 'static,
     I: Read + Send + Drop + 'static,
-    ensures { result ≡ None → IsWholeBoardRun R.File.contents options }
+    E: Write + Send + Drop + 'static,
+    ensures { IsWholeEnd result → IsWholeBoardRun R.File.contents R.File.remaining options }
 {
     let key = match read_key(rt, alloc, &options.guard) {
         Ok(key) => key,
         Err(fault) => return Some(BoardFault::Member(MemberFault::from(fault))),
     };
-    let file = match open_record(rt, &options) {
-        Ok(file) => file,
-        Err(fault) => return Some(BoardFault::Member(fault)),
-    };
     match prepare(rt, alloc, place, options.config) {
-        Ok(prepared) => run_keyed(rt, alloc, options, key, file, prepared, input, err),
+        Ok(prepared) => run_keyed(rt, alloc, options, key, prepared, input, desk),
         Err(error) => Some(BoardFault::of_serve(place.http, error)),
     }
 }
 
 // Does the rest, once the board's address is bound.
-fn run_keyed<R, F, I, E: Write>(
+#[tactic(auto, using(crate::proofs::BoardRuns::not_whole))]
+fn run_keyed<R, I, E>(
     rt: &R,
     alloc: Global,
     options: NodeOptions,
     key: Option<Key>,
-    file: Option<F>,
     prepared: Prepared<R>,
     input: Option<I>,
-    err: &mut E,
+    desk: &Arc<BoardDesk<E>, Global>,
 ) -> Option<BoardFault>
 where
-    R: Net + RandomSource + time::Clock + Threads + Wait + Copy + Send + Drop + 'static,
-    F: Write + OpenFile + Drop,
+    R: Net + Files + RandomSource + time::Clock + Threads + Wait + Copy + Send + Drop + 'static,
     I: Read + Send + Drop + 'static,
+    E: Write + Send + Drop + 'static,
     requires { vec_len prepared.sinks ≡ PAGES }
-    ensures { result ≡ None → RunsWithKey F.contents file options key }
+    ensures { IsWholeEnd result → RunsWithKey R.File.contents options key }
 {
     match seal_by(rt, alloc, key, options.config.me()) {
-        Ok(seal) => run_prepared(rt, alloc, options, seal, file, prepared, input, err),
+        Ok(seal) => run_sealed(rt, alloc, options, seal, prepared, input, desk),
         Err(fault) => Some(BoardFault::Member(MemberFault::from(fault))),
     }
 }
 
 // Does the rest, once the member has its seal.
-fn run_prepared<R, F, I, E: Write>(
+#[tactic(auto, using(crate::proofs::BoardRuns::not_whole))]
+fn run_sealed<R, I, E>(
+    rt: &R,
+    alloc: Global,
+    options: NodeOptions,
+    seal: Option<Seal>,
+    prepared: Prepared<R>,
+    input: Option<I>,
+    desk: &Arc<BoardDesk<E>, Global>,
+) -> Option<BoardFault>
+where
+    R: Net + Files + RandomSource + time::Clock + Threads + Wait + Copy + Send + Drop + 'static,
+    I: Read + Send + Drop + 'static,
+    E: Write + Send + Drop + 'static,
+    requires { vec_len prepared.sinks ≡ PAGES }
+    ensures { IsWholeEnd result → RunsWithSeal R.File.contents options seal }
+{
+    match open_record(rt, alloc, &options) {
+        Ok(file) => run_prepared(rt, alloc, options, seal, file, prepared, input, desk),
+        Err(fault) => Some(BoardFault::Member(fault)),
+    }
+}
+
+// Does the rest, once the file of its record is made, if the options name one.
+#[tactic(auto, using(crate::proofs::BoardRuns::not_whole))]
+fn run_prepared<R, F, I, E>(
     rt: &R,
     alloc: Global,
     options: NodeOptions,
@@ -147,46 +209,49 @@ fn run_prepared<R, F, I, E: Write>(
     file: Option<F>,
     prepared: Prepared<R>,
     input: Option<I>,
-    err: &mut E,
+    desk: &Arc<BoardDesk<E>, Global>,
 ) -> Option<BoardFault>
 where
-    R: Net + RandomSource + time::Clock + Threads + Wait + Copy + Send + Drop + 'static,
+    R: Net + Files + RandomSource + time::Clock + Threads + Wait + Copy + Send + Drop + 'static,
     F: Write + OpenFile + Drop,
     I: Read + Send + Drop + 'static,
+    E: Write + Send + Drop + 'static,
     requires { vec_len prepared.sinks ≡ PAGES }
-    ensures { result ≡ None → RunsWithSeal F.contents file options seal }
+    ensures { IsWholeEnd result → RunsWithFile F.contents file options seal }
 {
     let turns = options.turns;
     let linger = linger_of(&options);
     match bind(rt, alloc, options, seal, file, &prepared.shared) {
-        Ok((station, noting)) => {
-            let fault = run_bound(rt, alloc, station, prepared, linger, turns, input, err);
-            member_fault(told_with(fault, &noting))
-        }
+        Ok((station, notes)) => run_bound(
+            rt, alloc, station, notes, prepared, linger, turns, input, desk,
+        ),
         Err(fault) => Some(BoardFault::Member(fault)),
     }
 }
 
 // Does the rest, once the member's address is bound too.
-fn run_bound<R, X, F, P, I, E: Write>(
+#[tactic(auto, using(crate::proofs::BoardRuns::whole_end))]
+fn run_bound<R, X, F, P, I, E>(
     rt: &R,
     alloc: Global,
     station: Station<R, X, Written<F, P>>,
+    notes: Notes,
     prepared: Prepared<R>,
     linger: u64,
     turns: u64,
     input: Option<I>,
-    err: &mut E,
-) -> Option<MemberFault>
+    desk: &Arc<BoardDesk<E>, Global>,
+) -> Option<BoardFault>
 where
     R: Net + RandomSource + time::Clock + Threads + Wait + Copy + Send + Drop + 'static,
     X: Wire + Drop,
     F: Write + OpenFile + Drop,
     P: Past<Entry> + Drop,
     I: Read + Send + Drop + 'static,
+    E: Write + Send + Drop + 'static,
     requires new { HasNewEnds station.node.view station.taps.items station.pens.items }
     requires sinks { vec_len prepared.sinks ≡ PAGES }
-    ensures { result ≡ None → ((took : List (List AMessage)) × (whole : IsWholeHost (calls_of NeverFalls X.receives X.sends X.pauses) turns station.node.view took) × (file : Option F) × IsRecorded F.contents station.node.begins whole.last.journal.entries took file) }
+    ensures { IsWholeEnd result → ((took : List (List AMessage)) × (whole : IsWholeHost (calls_of NeverFalls X.receives X.sends X.pauses) turns station.node.view took) × (file : Option F) × IsRecorded F.contents station.node.begins whole.last.journal.entries took file) }
 {
     let Prepared {
         endpoint,
@@ -199,15 +264,22 @@ where
         tally,
         ..
     } = shared;
-    let staying = staying_for(linger, need);
     let opening = Opening {
         endpoint,
-        staying,
+        staying: staying_for(linger, need),
         input,
     };
-    let fault = host(rt, alloc, station, sinks, turns, opening, &slate, err);
-    tell_wire(alloc, &tally, err);
-    fault
+    let telling = start_telling(rt, &tally, share_keeping(&notes.record), desk);
+    let run = host(rt, alloc, station, sinks, turns, opening, &slate, desk);
+    let told = told_by(rt, telling);
+    tell_last(rt, &tally, told, desk);
+    BoardFault::of_end(told_with(run, alloc, &notes), tally.was_before())
+}
+
+// Tells what wasn't told yet, and what was lost or dropped.
+fn tell_last<R: Wait, E: Write>(rt: &R, tally: &Tally, told: Told, desk: &BoardDesk<E>) {
+    let _ = tell_news(rt, tally, told, desk);
+    tell_wire(rt, tally, desk);
 }
 
 // The member stays as long as others need what it holds.
@@ -216,15 +288,6 @@ fn staying_for(linger: u64, need: Arc<Need, Global>) -> Staying {
         stay: 0,
         linger,
         need,
-    }
-}
-
-fn member_fault(fault: Option<MemberFault>) -> Option<BoardFault>
-    ensures { result ≡ None → fault ≡ None }
-{
-    match fault {
-        Some(fault) => Some(BoardFault::Member(fault)),
-        None => None,
     }
 }
 

@@ -13,6 +13,7 @@ ghost use Rattle.srm_member.specs.TakenText.{has_close, lists_of};
 ghost use Rattle.srm_record.specs.Begun.{IsRecorded};
 ghost use Rattle.srm_member.specs.WholeRuns.{IsWholeHost, TakePrefixes};
 
+use crate::board_desk::BoardDesk;
 use crate::serving::{Ink, Opening, Serving, start_serving};
 use srm_agent::Entry;
 use srm_live::unrecorded;
@@ -33,11 +34,11 @@ use std::sync::{Arc, Wait};
 use std::thread::Threads;
 use std::time;
 
-/// Runs the node in this thread, and its page workers and the server of its board in threads beside it, until all have ended. `err` gets the address of the page once it
-/// is served. `turns` is how many turns the node has.
+/// Runs the node in this thread, and its page workers and the server of its board in threads beside it, until all have ended. `desk` tells the address of the page once it
+/// is served, and knows then that the node has ended. `turns` is how many turns the node has.
 ///
 /// Returns why the run wasn't whole, or [`MemberFault::Record`] if it was and the file hasn't its whole record; `None` if it was and there is no file or it has. Then the node ran to its end, and each worker took all that the node's journal gave in its slot.
-pub fn host<R, X, F, P, S, I, E: Write>(
+pub fn host<R, X, F, P, S, I, E>(
     rt: &R,
     alloc: Global,
     station: Station<R, X, Written<F, P>>,
@@ -45,7 +46,7 @@ pub fn host<R, X, F, P, S, I, E: Write>(
     turns: u64,
     opening: Opening<I>,
     slate: &Arc<Slate, Global>,
-    err: &mut E,
+    desk: &BoardDesk<E>,
 ) -> Option<MemberFault>
 where
     R: Net + RandomSource + time::Clock + Threads + Wait + Copy + Send + Drop + 'static,
@@ -54,6 +55,7 @@ where
     P: Past<Entry> + Drop,
     S: PageSink + Send + Drop + 'static,
     I: Read + Send + Drop + 'static,
+    E: Write,
     requires new { HasNewEnds station.node.view station.taps.items station.pens.items }
     requires sinks { vec_len sinks ≡ PAGES }
     ensures { result ≡ None → ((took : List (List AMessage)) × (whole : IsWholeHost (calls_of NeverFalls X.receives X.sends X.pauses) turns station.node.view took) × (file : Option F) × IsRecorded F.contents station.node.begins whole.last.journal.entries took file) }
@@ -64,9 +66,10 @@ where
         pens,
         waker,
     } = station;
-    let serving = start_serving(rt, alloc, Ink { pens, waker }, opening, slate, err);
+    let serving = start_serving(rt, alloc, Ink { pens, waker }, opening, slate, desk);
     let hosted = host_if(rt, alloc, serving.is_some(), node, taps, sinks, turns);
     slate.end(rt);
+    desk.end();
     join_if(rt, serving);
     match hosted {
         Some((hosted, _)) => settle(alloc, hosted),

@@ -37,7 +37,7 @@ pub struct Shared {
     pub turning: Arc<Turning, Global>,
     /// What others need of the member.
     pub need: Arc<Need, Global>,
-    /// What its wire lost and dropped.
+    /// What its wire lost and dropped, and whether it was in the session before.
     pub tally: Arc<Tally, Global>,
 }
 

@@ -1,5 +1,6 @@
 //! The threads that serve a board.
 
+use crate::board_desk::BoardDesk;
 use crate::inkwell::{Inkwell, SharedInkwell};
 use crate::leaving::start_leaving;
 use crate::telling::tell_address;
@@ -61,19 +62,20 @@ pub struct Opening<I> {
     pub input: Option<I>,
 }
 
-/// Starts the threads, and tells `err` where the page is. The first producer is that of all browsers, and the others are done. Returns `None` if out of memory, if a
+/// Starts the threads, and tells at the desk where the page is. The first producer is that of all browsers, and the others are done. Returns `None` if out of memory, if a
 /// thread can't be started, or if the system has no randomness; no thread runs then.
-pub fn start_serving<R, I, E: Write>(
+pub fn start_serving<R, I, E>(
     rt: &R,
     alloc: Global,
     ink: Ink,
     opening: Opening<I>,
     slate: &Arc<Slate, Global>,
-    err: &mut E,
+    desk: &BoardDesk<E>,
 ) -> Option<Serving>
 where
     R: Net + time::Clock + Threads + Wait + RandomSource + Copy + Send + Drop + 'static,
     I: Read + Send + Drop + 'static,
+    E: Write,
 {
     let Opening {
         endpoint,
@@ -94,7 +96,7 @@ where
         door.close(rt);
         return None;
     };
-    tell_address(alloc, address.as_str(), err);
+    tell_address(rt, address.as_str(), desk);
     Some(Serving { door, leaving })
 }
 

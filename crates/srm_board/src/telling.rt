@@ -1,34 +1,40 @@
 //! What a board tells on standard error.
 
-use srm_live::{ByCause, Lost, Tally};
-use srm_wire::{Dropped, Losses};
+use crate::board_desk::BoardDesk;
+use srm_live::{Tally, Teller, Told, tell_activity};
+use srm_member::Keeping;
 use std::alloc::Global;
 use std::io::Write;
+use std::sync::{Arc, Wait};
+use std::thread;
+use std::thread::{JoinHandle, Threads};
+use std::time::Clock;
 
-/// Tells where the page is. If `err` fails nobody is told, and the member runs all the same.
-pub fn tell_address<E: Write>(alloc: Global, address: &str, err: &mut E) {
-    if let Ok(line) = format!(in alloc; "srm: draw at {address}\n") {
-        put(line.as_str(), err);
+/// Tells where the page is. If standard error fails nobody is told, and the member runs all the same.
+pub fn tell_address<R: Wait, E: Write>(rt: &R, address: &str, desk: &BoardDesk<E>) {
+    if let Ok(line) = format!(in desk.alloc(); "srm: draw at {address}\n") {
+        desk.tell(rt, line.as_str());
     }
 }
 
-/// Tells what was lost on its way out and what was received and dropped, by cause, if anything was. If out of memory, a line is left out.
-pub fn tell_wire<E: Write>(alloc: Global, tally: &Tally, err: &mut E) {
-    let losses = tally.losses();
-    if losses != Losses::none() {
-        if let Ok(line) = format!(in alloc; "srm: lost on the way out: {}\n", Lost(losses)) {
-            put(line.as_str(), err);
-        }
-    }
-    let dropped = tally.dropped();
-    if dropped != Dropped::none() {
-        if let Ok(line) = format!(in alloc; "srm: dropped: {}\n", ByCause(dropped)) {
-            put(line.as_str(), err);
-        }
-    }
-}
-
-fn put<E: Write>(line: &str, err: &mut E) {
-    let _ = err.write_all(line.as_bytes());
-    let _ = err.flush();
+/// Starts the thread that tells what befalls the member, once each: that it was in the session before, why its first datagrams are dropped, and why the record that notes it
+/// in `keeping` lacks something. The thread ends with the member's node, and returns what it told. Returns `None` if out of memory, or if no thread can be started.
+pub fn start_telling<R, E>(
+    rt: &R,
+    tally: &Arc<Tally, Global>,
+    keeping: Keeping,
+    desk: &Arc<BoardDesk<E>, Global>,
+) -> Option<JoinHandle<Told>>
+where
+    R: Clock + Threads + Wait + Copy + Send + Drop + 'static,
+    E: Write + Send + Drop + 'static,
+{
+    let own = *rt;
+    let tally = Arc::try_clone(tally).ok()?;
+    let desk = Arc::try_clone(desk).ok()?;
+    thread::spawn(rt, move || {
+        let desk: &BoardDesk<E> = &desk;
+        tell_activity(&own, &tally, &keeping, desk)
+    })
+    .ok()
 }

@@ -27,7 +27,8 @@ pub struct Watching<R: Wait + Drop> {
 }
 
 impl<R: Wait + Drop> Watching<R> {
-    /// Makes a history without entries, which is shown on this slate from now on, with what others need on this need, and what the wire dropped on this tally.
+    /// Makes a history without entries, which is shown on this slate from now on, with what others need on this need, and on this tally what the wire
+    /// lost and dropped and that the member was in the session before.
     pub fn new(
         rt: R,
         alloc: Global,
@@ -172,6 +173,7 @@ impl<R: Wait + Drop> Watch<R> {
     // Shows it if another member knows of strokes that this one drew in an earlier run.
     fn look_for_earlier<W: Words + Drop>(&mut self, agent: &Agent<W>) {
         if self.claims.settle(agent) {
+            self.tally.note_earlier();
             let mut shown = self.slate.lock(&self.rt);
             show_stale(&mut shown);
         }

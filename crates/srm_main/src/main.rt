@@ -39,7 +39,12 @@ fn main(rt: HostRuntime) -> ExitCode {
             Err(reply) => print_reply(&reply, &mut writer(&rt), &mut err),
         },
         ["board", arguments @ ..] => match read_board(&rt, alloc, arguments) {
-            Ok(options) => run_board(&rt, options, terminal_of(&rt, alloc, rt.stdin()), &mut err),
+            Ok(options) => run_board(
+                &rt,
+                options,
+                terminal_of(&rt, alloc, rt.stdin()),
+                rt.stderr(),
+            ),
             Err(reply) => print_reply(&reply, &mut writer(&rt), &mut err),
         },
         ["picture", arguments @ ..] => match read_picture(alloc, arguments) {

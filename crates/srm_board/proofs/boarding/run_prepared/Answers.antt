@@ -1,14 +1,13 @@
 use Rattle.srm_member.proofs.MemberRuns.{stored_if}
-use Rattle.srm_live.proofs.LiveMembers.{told_none}
 use Rattle.srm_board.proofs.BoardRuns.{board_ends}
 use Rattle.srm_board.proofs.boarding.run_prepared.Goals as goal
 
-pub run_bound-fault-requires-clause-new : goal.run_bound-fault-requires-clause-new
-run_bound-fault-requires-clause-new g c κs within = board_ends c.args.options c.args.seal c.in-Ok.station.node.view c.in-Ok.station.taps.items c.in-Ok.station.pens.items c.in-Ok.ensures.station
+pub run_bound-requires-clause-new : goal.run_bound-requires-clause-new
+run_bound-requires-clause-new g c κs within = board_ends c.args.options c.args.seal c.in-Ok.station.node.view c.in-Ok.station.taps.items c.in-Ok.station.pens.items c.in-Ok.ensures.station
 
 pub returns-in-Ok : goal.returns-in-Ok
-returns-in-Ok g c = λ none.
-    let run = c.run_bound-fault.ensures (told_none _ _ c.told_with.ensures.told (c.member_fault.ensures none)) in
+returns-in-Ok g c = λ whole.
+    let run = c.run_bound.ensures whole in
     record {
       node = c.in-Ok.station.node.view;
       taps = c.in-Ok.station.taps.items;
