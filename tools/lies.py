@@ -83,7 +83,7 @@ def a_stroke_is_hidden(records, liar):
 
 
 def another_stroke_than_others_heard(records, liar):
-    """It changes its first stroke wherever its record has it."""
+    """It changes its first stroke wherever its record has it. Where it heard another repair that stroke, as it was, no run has its record."""
     body = records[liar].frames[records[liar].places(DREW)[0]].payload[3:]
     frames = [it._replace(payload=it.payload.replace(body, body[::-1])) if it.kind in (DREW, TOOK) else it for it in records[liar].frames]
     yield lying(records, liar, records[liar]._replace(frames=frames))
@@ -126,7 +126,7 @@ REFUSED = {
     "a moment that falls": (a_moment_that_falls, UNTOLD),
     "another seed, by which timers were set": (another_seed, UNTOLD),
     "a stroke that others heard is hidden": (a_stroke_is_hidden, f"{UNTOLD}|{UNGIVEN}|{UNSENT}"),
-    "another stroke than others heard": (another_stroke_than_others_heard, UNSENT),
+    "another stroke than others heard": (another_stroke_than_others_heard, f"{UNTOLD}|{UNSENT}"),
     "a request that nobody sent": (a_forged_request_is_heard, UNSENT),
     "a message that a worker took is left out": (a_take_is_left_out, UNGIVEN),
     "messages that a worker took change places": (takes_change_places, UNGIVEN),
