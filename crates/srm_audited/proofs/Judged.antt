@@ -1,5 +1,5 @@
 -- What came out of records' calls, and what it says of the records.
-use Rattle.std.specs.Prelude.{◌≡◌, ℕ, List, [], Vec, Option, Some, None, Result, Ok, Err, IfOk, IfErr, IfSome}
+use Rattle.std.specs.Prelude.{◌≡◌, ℕ, ◌≤◌, List, [], length, Vec, Some, Result, Ok, Err, IfOk, IfErr}
 use Rattle.rand_pcg.specs.Lcg.{Lcg}
 use Rattle.rand_pcg.specs.Pcg.{pcg64}
 use Rattle.std.proofs.Common.{refl, sym, subst, inl, inr, ◌∙◌, vec_len}
@@ -12,8 +12,9 @@ use Rattle.srm_world.specs.Traces.{Trace, Journal, IsHonest, IsRun}
 use Rattle.srm_world.specs.Claims.{IsLawfulJournal, AgreesAtRest, TakesAreDrawn}
 use Rattle.srm_world.specs.WaitWords.{AreByWords}
 use Rattle.srm_frames.specs.declared.reading.Record.{Record}
-use Rattle.srm_frames.specs.Lines.{lines_text}
 use Rattle.srm_record.specs.declared.replaying.Replayed.{Replayed}
+use Rattle.srm_record.specs.Allowances.{timers_allowed, timers_in}
+use Rattle.srm_record.specs.Faults.{begun}
 use Rattle.srm_record.specs.Making.{MakesAll}
 use Rattle.srm_record.specs.Replays.{start_of, lines_told, TellsOfRuns}
 use Rattle.srm_record.specs.Takes.{taken_in}
@@ -31,18 +32,18 @@ use Rattle.srm_gaps.specs.Possible.{HasOrder, IsRefusedAt}
 use Rattle.srm_audited.specs.Verdicts.{AreGiven, AreHonest, ArePart, IsUngiven, IsMismatch, IsReason, IsVerdict, IsVerdictOn, verdict_of_part, verdict_of_whole}
 use Rattle.std.proofs.lemmas.Option.{none-some, same_Some}
 
-pub is_replay : {E : Type 0} (r : Record) (v : Result (Option Replayed) E)
-    → IfOk v (λ found. IfSome found (λ p. p.journal.start ≡ start_of r.beginning))
-    → IfOk v (λ found. IfSome found (λ p. IsLawfulJournal p.journal))
-    → IfOk v (λ found. IfSome found (λ p. (to : Lcg) × AreByWords pcg64 p.journal.start.config (words_of r.beginning.seed) p.journal.entries to))
-    → IfOk v (λ found. IfSome found (λ p. MakesAll r.lines.items (record { start = start_of r.beginning; entries = [] }) p.journal))
-    → IfOk v (λ found. IfSome found (λ p. lines_text r.lines.items ≡ lines_text (lines_told r.beginning p.journal.entries (taken_in p.taken.items) r.end)))
-    → IfOk v (λ found. IfSome found (λ p. TellsOfRuns r p.journal (taken_in p.taken.items)))
-    → IfOk v (λ found. IfSome found (λ p. vec_len p.taken ≡ PAGES))
-    → IfOk v (λ found. IfSome found (λ p. IsReplayOf r (replay_of r.end p)))
-is_replay r (Ok (Some p)) start lawful words made told runs slots = record { start = start; lawful = lawful; words = words; made = made; told = told; runs = runs; slots = length-map p.taken.items (λ (list : Vec PageMsg Global). list.items) ∙ sym p.taken.ok.0 ∙ slots; cut = refl }
-is_replay r (Ok None) start lawful words made told runs slots = tt
-is_replay r (Err e) start lawful words made told runs slots = tt
+pub is_replay : {E : Type 0} (r : Record) (v : Result Replayed E)
+    → IfOk v (λ p. p.journal.start ≡ start_of r.beginning)
+    → IfOk v (λ p. IsLawfulJournal p.journal)
+    → IfOk v (λ p. (to : Lcg) × AreByWords pcg64 p.journal.start.config (words_of r.beginning.seed) p.journal.entries to)
+    → IfOk v (λ p. MakesAll r.lines.items (begun r) p.journal)
+    → IfOk v (λ p. r.lines.items ≡ lines_told r.beginning p.journal.entries (taken_in p.taken.items) r.end)
+    → IfOk v (λ p. timers_in p.journal.entries ≤ timers_allowed (length r.lines.items))
+    → IfOk v (λ p. TellsOfRuns r p.journal (taken_in p.taken.items))
+    → IfOk v (λ p. vec_len p.taken ≡ PAGES)
+    → IfOk v (λ p. IsReplayOf r (replay_of r.end p))
+is_replay r (Ok p) start lawful words made told bounded runs slots = record { start = start; lawful = lawful; words = words; made = made; told = told; bounded = bounded; runs = runs; slots = length-map p.taken.items (λ (list : Vec PageMsg Global). list.items) ∙ sym p.taken.ok.0 ∙ slots; cut = refl }
+is_replay r (Err e) start lawful words made told bounded runs slots = tt
 
 pub honest_ok : {E : Type 0} (ts : List Told) (js : List Journal) (gots : List Got) (r : Result Trace E) → js ≡ journals_of ts → IfOk r (AreAccountedBy js gots) → IfOk r IsRun → IfOk r (λ t. IsHonest t.entries) → IfOk r (λ t. TakesAreDrawn t.entries)
     → IfOk r (λ t. AgreesAtRest t.entries) → IfOk r (AreHonest ts gots)
@@ -97,7 +98,7 @@ part_ok ts gots mismatch (Err fault) are order given is e = tt
 pub of_records : (rs : List Record) (ts : List Told) (gots : List Got) (v : Verdict) → AreOf rs ts gots → IsVerdictOn ts gots v → IsVerdict rs v
 of_records rs ts gots (Honest t) of on = record { told = ts; gots = gots; of = of; on = on }
 of_records rs ts gots Undecided of on = record { told = ts; gots = gots; of = of; on = on }
-of_records rs ts gots (NotHonest (reasons.Untold place)) of on = absurd on
+of_records rs ts gots (NotHonest (reasons.Untold place line)) of on = absurd on
 of_records rs ts gots (NotHonest reasons.Roster) of on = record { told = ts; gots = gots; of = of; on = on }
 of_records rs ts gots (NotHonest (reasons.Foreign member slot)) of on = record { told = ts; gots = gots; of = of; on = on }
 of_records rs ts gots (NotHonest (reasons.Unsent member entry)) of on = record { told = ts; gots = gots; of = of; on = on }

@@ -107,7 +107,7 @@ not_foreign t ps gots member slot a lists (q, order, foreign) =
     none_foreign q gots member slot (subst (λ (gs : List Got). AreFound q gs) (sym lists) (are_found t ps q a.all a.session order)) foreign
 
 no_reason : (t : Trace) (ps : List Replay) (gots : List Got) (reason : Reason) → AreToldIn t ps → gots ≡ flat_map gots_of ps → ¬ (IsReason (tolds ps) gots reason)
-no_reason t ps gots (Untold place) a lists never = never
+no_reason t ps gots (Untold place line) a lists never = never
 no_reason t ps gots Roster a lists (inl (complete, refused)) =
     let (q, order) = in_order t.starts (tolds ps) a.as_told.run.roster a.began a.session (as_many_as_members t.starts (tolds ps) a.as_told.run.roster a.began complete) in refused q order
 no_reason t ps gots Roster a lists (inr (incomplete, differ)) = differ a.session
@@ -126,7 +126,7 @@ of_verdict rs reason t v written =
     no_reason t v.of.replays v.gots reason (told_in t rs v.of.replays written v.of.each) v.of.lists (subst (λ (ts : List Told). IsReason ts v.gots reason) v.of.told v.on)
 
 pub refused_law : RefusedLaw
-refused_law rs (Untold place) t v written = let w = by_place (IsWrittenIn t) rs place v.untold written.each v.here in v.of_none w.spelled w.journal w.lists w.of
+refused_law rs (Untold place line) t v written = let w = by_place (IsWrittenIn t) rs place v.stopped written.each v.here in v.why.of_none w.spelled w.journal w.lists w.of
 refused_law rs Roster t v written = of_verdict rs Roster t v written
 refused_law rs (Foreign member slot) t v written = of_verdict rs (Foreign member slot) t v written
 refused_law rs (Unsent member entry) t v written = of_verdict rs (Unsent member entry) t v written

@@ -1,5 +1,5 @@
 -- What came out of the records of a session, whose calls were made anew.
-use Rattle.std.specs.Prelude.{◌≡◌, ℕ, ◌+◌, Bool, true, false, List, [], ◌∷◌, ◌++◌, length, map}
+use Rattle.std.specs.Prelude.{◌≡◌, ℕ, ◌+◌, ◌≤◌, Bool, true, false, List, [], ◌∷◌, ◌++◌, length, map}
 use Rattle.std.specs.List.{flat_map}
 use Rattle.rand_pcg.specs.Lcg.{Lcg}
 use Rattle.rand_pcg.specs.Pcg.{pcg64}
@@ -12,8 +12,9 @@ use Rattle.srm_world.specs.WaitWords.{AreByWords}
 use Rattle.srm_frames.specs.declared.reading.Record.{Record}
 use Rattle.srm_frames.specs.declared.reading.RecordEnd.{RecordEnd}
 use Rattle.srm_frames.specs.declared.reading.RecordEnd.TheVariants.{Whole, Cut}
-use Rattle.srm_frames.specs.Lines.{lines_text}
 use Rattle.srm_record.specs.declared.replaying.Replayed.{Replayed}
+use Rattle.srm_record.specs.Allowances.{timers_allowed, timers_in}
+use Rattle.srm_record.specs.Faults.{begun}
 use Rattle.srm_record.specs.Making.{MakesAll}
 use Rattle.srm_record.specs.Replays.{start_of, lines_told, TellsOfRuns}
 use Rattle.srm_record.specs.Takes.{taken_in}
@@ -36,13 +37,14 @@ told_by end j = record { journal = j; is_cut = is_cut end }
 abbrev pub replay_of : RecordEnd → Replayed → Replay
 replay_of end p = record { told = told_by end p.journal; lists = taken_in p.taken.items }
 
--- A lawful run of the record's member, with the random numbers of its seed, made of the record's calls, and the record is the record of it and of a list for each page slot. Of every run that has this record the replay tells what acted and what was taken.
+-- A lawful run of the record's member, with the random numbers of its seed, made of the record's calls, and the record is the record of it and of a list for each page slot. It sets no more timers than one of the record's length may. Of every run that has this record the replay tells what acted and what was taken.
 pub record IsReplayOf (r : Record) (p : Replay) : Type 0 where
   pub start : p.told.journal.start ≡ start_of r.beginning
   pub lawful : IsLawfulJournal p.told.journal
   pub words : (to : Lcg) × AreByWords pcg64 p.told.journal.start.config (words_of r.beginning.seed) p.told.journal.entries to
-  pub made : MakesAll r.lines.items (record { start = start_of r.beginning; entries = [] }) p.told.journal
-  pub told : lines_text r.lines.items ≡ lines_text (lines_told r.beginning p.told.journal.entries p.lists r.end)
+  pub made : MakesAll r.lines.items (begun r) p.told.journal
+  pub told : r.lines.items ≡ lines_told r.beginning p.told.journal.entries p.lists r.end
+  pub bounded : timers_in p.told.journal.entries ≤ timers_allowed (length r.lines.items)
   pub runs : TellsOfRuns r p.told.journal p.lists
   pub slots : length p.lists ≡ PAGES
   pub cut : p.told.is_cut ≡ is_cut r.end

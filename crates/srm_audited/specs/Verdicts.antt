@@ -1,17 +1,21 @@
 -- What the records of a session are: one honest run, none, or perhaps one.
-use Rattle.std.specs.Prelude.{◌≡◌, ℕ, ◌⊎◌, List, slice_get, take, Option, Some, None}
+use Rattle.std.specs.Prelude.{◌≡◌, ℕ, ◌⊎◌, List, slice_get, take, Option, Some, None, Result, Ok, Err}
 use Rattle.std.specs.List.{AllByRecursion}
 use Rattle.srm_names.specs.Histories.{IsPrefix}
 use Rattle.srm_entries.specs.Giving.{given}
 use Rattle.srm_world.specs.Traces.{Trace, IsHonest, IsRun}
 use Rattle.srm_world.specs.Claims.{AgreesAtRest, TakesAreDrawn}
 use Rattle.srm_frames.specs.declared.reading.Record.{Record}
-use Rattle.srm_record.specs.Replays.{IsOfNoRun}
+use Rattle.srm_record.specs.Faults.{IsRetellFault}
+use Rattle.srm_record.specs.declared.fault.RetellFault.{RetellFault}
+use Rattle.srm_record.specs.declared.fault.RetellFault.TheVariants as faults
 use Rattle.srm_audit.specs.declared.got.Got.{Got}
 use Rattle.srm_audit.specs.declared.mismatch.Mismatch.{Mismatch}
 use Rattle.srm_audit.specs.declared.mismatch.Mismatch.TheVariants as mismatches
 use Rattle.srm_audit.specs.Audits.{AreAccountedBy, IsRefused}
 use Rattle.srm_gaps.specs.declared.told.Told.{Told}
+use Rattle.srm_audited.specs.declared.unjudged.Unjudged.{Unjudged}
+use Rattle.srm_audited.specs.declared.unjudged.Unjudged.TheVariants.{TooMuch, Memory}
 use Rattle.srm_audited.specs.declared.verdict.Verdict.{Verdict}
 use Rattle.srm_audited.specs.declared.verdict.Verdict.TheVariants.{Honest, NotHonest, Undecided}
 use Rattle.srm_audited.specs.declared.verdict.Reason.{Reason}
@@ -69,7 +73,7 @@ pub record AreUndecided (ts : List Told) (gots : List Got) : Type 0 where
 
 -- Why they are no honest run. Where no record is missing or cut, this is what is said of journals. Else the session is judged first, then the calls, then the lists.
 abbrev pub IsReason : List Told → List Got → Reason → Type 0
-IsReason ts gots (Untold place) = ⊥
+IsReason ts gots (Untold place line) = ⊥
 IsReason ts gots Roster = (AreComplete ts × AreRefused ts gots mismatches.Roster) ⊎ (¬ (AreComplete ts) × ¬ (AreOfOneSession ts))
 IsReason ts gots (Foreign member slot) =
     (AreComplete ts × AreRefused ts gots (mismatches.Foreign member slot)) ⊎ (ArePart ts × HasOrder ts × (IsUngiven ts gots member slot ⊎ AreRefused ts gots (mismatches.Foreign member slot)))
@@ -87,18 +91,29 @@ pub record IsVerdictOf (rs : List Record) (v : Verdict) : Type 0 where
   pub of : AreOf rs told gots
   pub on : IsVerdictOn told gots v
 
--- the record at this place is of no run, and each before it is of one
-pub record IsUntoldAt (rs : List Record) (place : ℕ) : Type 0 where
-  pub untold : Record
-  pub here : slice_get rs place ≡ Some untold
-  pub of_none : IsOfNoRun untold
+-- the calls of the record at this place give no replay, for this cause, and each record before it is of a run
+pub record IsStoppedAt (rs : List Record) (place : ℕ) (fault : RetellFault) : Type 0 where
+  pub stopped : Record
+  pub here : slice_get rs place ≡ Some stopped
+  pub why : IsRetellFault stopped fault
   pub told : List Told
   pub gots : List Got
   pub before : AreOf (take place rs) told gots
 
 abbrev pub IsVerdict : List Record → Verdict → Type 0
-IsVerdict rs (NotHonest (Untold place)) = IsUntoldAt rs place
+IsVerdict rs (NotHonest (Untold place line)) = IsStoppedAt rs place (faults.Untold line)
 IsVerdict rs v = IsVerdictOf rs v
+
+-- why records weren't judged
+abbrev pub IsUnjudged : List Record → Unjudged → Type 0
+IsUnjudged rs (TooMuch place line) = IsStoppedAt rs place (faults.TooMuch line)
+IsUnjudged rs Memory = Unit {0}
+
+-- what is said where the calls of the record at this place give no replay
+abbrev pub told_of_stop : ℕ → RetellFault → Result Verdict Unjudged
+told_of_stop place (faults.Untold line) = Ok (NotHonest (Untold place line))
+told_of_stop place (faults.TooMuch line) = Err (TooMuch place line)
+told_of_stop place faults.Memory = Err Memory
 
 -- what is said where no record is missing or cut, and why they don't match; nothing where memory ran out
 abbrev pub verdict_of_whole : Mismatch → Option Verdict

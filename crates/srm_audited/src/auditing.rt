@@ -1,17 +1,20 @@
 //! Records, put together.
 
-ghost use Rattle.std.specs.Prelude.{◌≡◌, [], Some, IfErr, IfOk, MatchOption};
+ghost use Rattle.std.specs.Prelude.{◌≡◌, [], Some, IfErr, IfOk, OnOk};
 ghost use Rattle.srm_gaps.specs.Possible.{HasOrder};
 ghost use Rattle.srm_audited.specs.Sessions.{AreOf};
 ghost use Rattle.srm_gaps.specs.Gaps.{AreComplete};
-ghost use Rattle.srm_audited.specs.Verdicts.{AreGiven, AreHonest, ArePart, IsMismatch, IsUntoldAt, IsVerdict, IsVerdictOn, verdict_of_part, verdict_of_whole};
+ghost use Rattle.srm_audited.specs.Verdicts.{AreGiven, AreHonest, ArePart, IsMismatch, IsStoppedAt, IsUnjudged, IsVerdict, IsVerdictOn, told_of_stop, verdict_of_part, verdict_of_whole};
+ghost use Rattle.srm_audited.specs.declared.unjudged.Unjudged.TheVariants.{Memory};
 
 use crate::gathering::{Gathered, add};
 use crate::giving::first_ungiven;
+use crate::unjudged::Unjudged;
 use crate::verdict::{Reason, Verdict};
 use srm_audit::{Got, Mismatch, reconcile};
 use srm_frames::Record;
 use srm_gaps::{Told, are_complete, are_of_one_session, first_stuck, journals_of};
+use srm_record::RetellFault;
 use srm_world::Trace;
 use std::alloc::{AllocError, Global};
 
@@ -21,39 +24,66 @@ use std::alloc::{AllocError, Global};
 /// whatever stands behind their cuts and in records that are missing; the first record that is of no run comes before all else. `Undecided` comes only where a record is missing or cut, where each call could follow if the
 /// members of such records sent what was heard of them, and where page workers took what their members gave.
 ///
-/// Fails only if out of memory. Makes each record's calls anew, once; stores the bytes of each datagram that was sent, twice where a record is missing or cut.
-pub fn audit(alloc: Global, records: &[Record]) -> Result<Verdict, AllocError>
-    ensures { IfOk result (IsVerdict records.now) }
+/// Fails with [`Unjudged::TooMuch`] for the first record whose calls set more timers than one of its length may, if all before it are of runs, and if out of memory. Makes each
+/// record's calls anew, once; stores the bytes of each datagram that was sent, twice where a record is missing or cut.
+#[tactic(auto, using(crate::proofs::Judged::of_records_ok, crate::proofs::SoFar::stop_told, crate::proofs::SoFar::stop_unjudged, crate::proofs::SoFar::unjudged_by_memory))]
+pub fn audit(alloc: Global, records: &[Record]) -> Result<Verdict, Unjudged>
+    ensures verdict { IfOk result (IsVerdict records.now) }
+    ensures unjudged { IfErr result (IsUnjudged records.now) }
 {
     let mut gathered = Gathered {
         told: Vec::new(alloc),
         gots: Vec::new(alloc),
     };
     match gather(alloc, &mut gathered, records) {
-        Ok(None) => judge(alloc, gathered),
-        Ok(Some(place)) => Ok(Verdict::NotHonest(Reason::Untold { place })),
-        Err(error) => Err(error),
+        Ok(()) => told_of_all(alloc, gathered),
+        Err(Stop { place, fault }) => told_of_stop(place, fault),
     }
 }
 
-// Makes the calls of records anew, up to the first record that is of no run: its place.
-#[tactic(auto, using(crate::proofs::SoFar::none_of, crate::proofs::SoFar::untold_at))]
-fn gather(
-    alloc: Global,
-    gathered: &mut Gathered,
-    records: &[Record],
-) -> Result<Option<usize>, AllocError>
+// Where the calls of a record gave no replay, and why.
+#[derive(Clone, Copy)]
+struct Stop {
+    place: usize,
+    fault: RetellFault,
+}
+
+// Makes the calls of records anew, up to the first record that gives no replay.
+#[tactic(auto, using(crate::proofs::SoFar::none_of, crate::proofs::SoFar::stopped_at))]
+fn gather(alloc: Global, gathered: &mut Gathered, records: &[Record]) -> Result<(), Stop>
     requires empty { gathered.old.told.items ≡ [] }
     requires none { gathered.old.gots.items ≡ [] }
-    ensures { IfOk result (λ untold. MatchOption untold (AreOf records.now gathered.new.told.items gathered.new.gots.items) (IsUntoldAt records.now)) }
+    ensures all { OnOk result (AreOf records.now gathered.new.told.items gathered.new.gots.items) }
+    ensures stop { IfErr result (λ stop. IsStoppedAt records.now stop.place stop.fault) }
 {
     for (place, read) in records.iter().enumerate() {
-        let told = add(alloc, gathered, read)?;
-        if !told {
-            return Ok(Some(place));
+        match add(alloc, gathered, read) {
+            Ok(()) => {}
+            Err(fault) => return Err(Stop { place, fault }),
         }
     }
-    Ok(None)
+    Ok(())
+}
+
+fn told_of_stop(place: usize, fault: RetellFault) -> Result<Verdict, Unjudged>
+    ensures { result ≡ told_of_stop place fault }
+{
+    match fault {
+        RetellFault::Untold(line) => Ok(Verdict::NotHonest(Reason::Untold { place, line })),
+        RetellFault::TooMuch(line) => Err(Unjudged::TooMuch { place, line }),
+        RetellFault::Memory => Err(Unjudged::Memory),
+    }
+}
+
+// The verdict where each record gave a replay.
+fn told_of_all(alloc: Global, gathered: Gathered) -> Result<Verdict, Unjudged>
+    ensures verdict { IfOk result (IsVerdictOn gathered.told.items gathered.gots.items) }
+    ensures memory { IfErr result (λ fault. fault ≡ Memory) }
+{
+    match judge(alloc, gathered) {
+        Ok(verdict) => Ok(verdict),
+        Err(_) => Err(Unjudged::Memory),
+    }
 }
 
 #[tactic(auto, using(crate::proofs::Judged::no_roster, crate::proofs::Judged::are_part))]

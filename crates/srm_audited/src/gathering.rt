@@ -1,8 +1,8 @@
 //! What records tell, and what page workers took.
 
-ghost use Rattle.std.specs.Prelude.{◌≡◌, ◌++◌, ◌∷◌, [], true, false, vec_len, OnOk, IfOk, IfSome, MatchOption};
+ghost use Rattle.std.specs.Prelude.{◌≡◌, ◌++◌, ◌∷◌, [], vec_len, OnOk, IfErr, IfOk};
 ghost use Rattle.srm_names.specs.declared.limits.TheConstants.{PAGES};
-ghost use Rattle.srm_record.specs.Replays.{IsOfNoRun};
+ghost use Rattle.srm_record.specs.Faults.{IsRetellFault};
 ghost use Rattle.srm_record.specs.Takes.{taken_in};
 ghost use Rattle.srm_audited.specs.Sessions.{gots_from, is_cut, replay_of, told_by, Adds, IsReplayOf};
 
@@ -10,7 +10,7 @@ use srm_audit::Got;
 use srm_frames::{Record, RecordEnd};
 use srm_gaps::Told;
 use srm_names::{Items, Member, PageMsg};
-use srm_record::{Replayed, retell};
+use srm_record::{Replayed, RetellFault, retell};
 use std::alloc::{AllocError, Global};
 use std::collections::VecDeque;
 
@@ -21,23 +21,23 @@ pub struct Gathered {
     pub gots: Vec<Got>,
 }
 
-/// Makes the calls of a record anew, and adds what came out, if the record is the record of that. Returns whether it is: if not, it is of no run. Fails only if out of memory.
-pub fn add(alloc: Global, gathered: &mut Gathered, read: &Record) -> Result<bool, AllocError>
-    ensures untold { IfOk result (λ is_told. is_told ≡ false → IsOfNoRun read.now) }
-    ensures adds { IfOk result (λ is_told. is_told ≡ true → Adds read.now gathered.old.told.items gathered.old.gots.items gathered.new.told.items gathered.new.gots.items) }
+/// Makes the calls of a record anew, and adds what came out, if the record is the record of that. Fails as [`retell`] does: then nothing is added, unless memory ran out.
+pub fn add(alloc: Global, gathered: &mut Gathered, read: &Record) -> Result<(), RetellFault>
+    ensures adds { OnOk result (Adds read.now gathered.old.told.items gathered.old.gots.items gathered.new.told.items gathered.new.gots.items) }
+    ensures fault { IfErr result (IsRetellFault read.now) }
 {
-    let Some(replayed) = replay(alloc, read)? else {
-        return Ok(false);
-    };
-    add_replayed(gathered, read.end, replayed)?;
-    Ok(true)
+    let replayed = replay(alloc, read)?;
+    match add_replayed(gathered, read.end, replayed) {
+        Ok(()) => Ok(()),
+        Err(_) => Err(RetellFault::Memory),
+    }
 }
 
 // Makes the calls of a record anew.
-fn replay(alloc: Global, read: &Record) -> Result<Option<Replayed>, AllocError>
-    ensures is { IfOk result (λ found. IfSome found (λ r. IsReplayOf read.now (replay_of read.now.end r))) }
-    ensures slots { IfOk result (λ found. IfSome found (λ r. vec_len r.taken ≡ PAGES)) }
-    ensures none { IfOk result (λ found. MatchOption found (IsOfNoRun read.now) (λ _. Unit {0})) }
+fn replay(alloc: Global, read: &Record) -> Result<Replayed, RetellFault>
+    ensures is { IfOk result (λ r. IsReplayOf read.now (replay_of read.now.end r)) }
+    ensures slots { IfOk result (λ r. vec_len r.taken ≡ PAGES) }
+    ensures fault { IfErr result (IsRetellFault read.now) }
 {
     retell(alloc, read)
 }

@@ -10,9 +10,11 @@
 //! }
 //! ```
 //!
-//! Contracts pin each verdict. An honest one has the run, which is lawful and honest. One that isn't honest names a record that no run of its member has, a list that isn't what its
+//! Contracts pin each verdict. An honest one has the run, which is lawful and honest. One that isn't honest names a record that no run of its member has and the first line of it that differs, a list that isn't what its
 //! member gave, or an entry that hears what nobody can have sent, whatever stands behind the cuts of records and in those that are missing. `Undecided` comes only where a record is
 //! missing or cut, and the records as they are aren't one honest run. Then all calls have a possible order: each hears what was sent, or what such a member may have sent.
+//!
+//! **Errors.** [`Unjudged`]: out of memory, or a record whose calls set more timers than one of its length may. So what hostile records cost is bounded by their length.
 //!
 //! Two laws say what verdicts tell of the runs whose members wrote the records. Where they aren't honest, there is no such honest run ([`refusals_hold`]). Where all members of an honest
 //! run wrote them, whole or cut behind the last datagram that the member sent, they are ([`honest_runs_are_found`]).
@@ -26,8 +28,10 @@ mod auditing;
 mod gathering;
 mod giving;
 mod laws;
+mod unjudged;
 mod verdict;
 
 pub use auditing::audit;
 pub use laws::{files_tell, honest_runs_are_found, refusals_hold, what_is_written_is_read};
+pub use unjudged::Unjudged;
 pub use verdict::{Reason, Verdict};

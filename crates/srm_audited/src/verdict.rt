@@ -17,8 +17,8 @@ pub enum Verdict {
 /// Why records aren't one honest run.
 #[derive(Clone, Copy, Debug, PartialEq, Eq)]
 pub enum Reason {
-    /// The record with this place, from 0, is of no run of a member that began so: its calls, made anew, make another record.
-    Untold { place: usize },
+    /// The record with this place, from 0, is of no run of a member that began so: its calls, made anew, make another record. This line of it, from 0, is the first that differs.
+    Untold { place: usize, line: usize },
     /// The records aren't of members of one roster in one session, or there are two of one member.
     Roster,
     /// The worker of this slot took what its member hadn't given.

@@ -5,7 +5,10 @@ mod Filing
 mod Ending
 mod Recorded
 mod Making
+mod Timers
 mod Taken
 mod Remade
 mod Untold
+mod Stopping
+mod Beside
 mod Beginning

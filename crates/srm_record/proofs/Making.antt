@@ -28,6 +28,8 @@ use Rattle.srm_world.specs.Traces.{Journal}
 use Rattle.srm_world.specs.Recording.{Records, RecordsHeard, Grows}
 use Rattle.srm_frames.specs.declared.line.Line.{Line}
 use Rattle.srm_frames.proofs.Elements.{taken_more}
+use Rattle.srm_record.specs.Allowances.{timers_in}
+use Rattle.srm_record.proofs.Timers.{timers-append}
 use Rattle.srm_record.specs.Making.{Gains, GainsHeard, GainsGiven, Waits, Makes, MakesAll}
 use Rattle.srm_frames.specs.declared.line.Call.{Call}
 use Rattle.srm_frames.specs.declared.line.Call.TheVariants as calls
@@ -150,6 +152,14 @@ no_fewer now call j k makes =
     let a = added now call j k makes in
     let count : length k.entries ≡ length j.entries + length a.more = ap length a.grown ∙ length-append j.entries a.more in
     omega arith
+
+-- so do the timers that it set
+pub timers_go_on : (now : ℕ) (call : Call) (j k : Journal) → Makes now call j k → timers_in k.entries ≡ timers_in j.entries + timers_in (drop (length j.entries) k.entries)
+timers_go_on now call j k makes =
+    let a = added now call j k makes in
+    ap timers_in a.grown
+    ∙ timers-append j.entries a.more
+    ∙ ap (λ es. timers_in j.entries + timers_in es) (sym (ap (drop (length j.entries)) a.grown ∙ drop-append_seam j.entries a.more))
 
 last_moment-append : (made : ℕ) (es fs : List Entry) → last_moment made (es ++ fs) ≡ last_moment (last_moment made es) fs
 last_moment-append made es fs =

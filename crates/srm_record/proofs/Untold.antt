@@ -1,6 +1,6 @@
 -- A record whose calls, made anew, make another record is of no run.
 use Rattle.std.proofs.Common.{◌≡◌, ℕ, ◌+◌, ◌<◌, ◌≤◌, min, Bool, true, false, List, [], ◌∷◌, ◌++◌, refl, ap, sym, ◌∙◌, subst, arith, append_assoc, append-nil}
-use Rattle.std.specs.Prelude.{Option, Some, None, unwrap_or, if◌then◌else◌}
+use Rattle.std.specs.Prelude.{Option, Some, None, unwrap_or, slice_get, if◌then◌else◌}
 use Rattle.std.specs.List.{AllByRecursion, flat_map, enumerate_from}
 use Rattle.rand_pcg.specs.Lcg.{Lcg}
 use Rattle.rand_pcg.specs.Pcg.{pcg64}
@@ -24,11 +24,12 @@ use Rattle.srm_frames.specs.declared.line.Call.TheVariants as calls
 use Rattle.srm_frames.specs.declared.reading.Record.{Record}
 use Rattle.srm_frames.specs.declared.reading.RecordEnd.{RecordEnd}
 use Rattle.srm_frames.specs.declared.reading.RecordEnd.TheVariants.{Whole, Cut}
-use Rattle.srm_frames.specs.Lines.{lines_text}
 use Rattle.srm_frames.specs.WhatIsRead.{IsLine}
 use Rattle.srm_record.specs.Calls.{lines_of, moment_of_acting, last_recorded}
 use Rattle.srm_record.specs.Takes.{slot_lines, listed_lines, takes_at, end_at, list_in, lists_in}
 use Rattle.srm_record.specs.Making.{Makes, MakesAll}
+use Rattle.srm_record.specs.Differing.{IsFirstOther}
+use Rattle.srm_record.specs.Faults.{begun, IsUntoldFrom}
 use Rattle.srm_record.specs.Replays.{start_of, lines_told, IsOfNoRun, TellsOfRuns}
 use Rattle.srm_record.proofs.Remade.{lines_by_acting, from_start}
 use Rattle.srm_record.proofs.Taken.{lists_told}
@@ -143,15 +144,36 @@ tells_of_runs r k lists start lawful words all makes spelled j took of =
     (run_of b j of.start of.lawful of.words) (run_of b k start lawful words) fit made in
     (same, all ∙ ap lists_in parts ∙ lists_told b.config.session last j.entries took (end_of last r.end) of.slots (none_taken last r.end))
 
-pub untold : (r : Record) (k : Journal) (lists : List (List PageMsg)) → k.start ≡ start_of r.beginning → IsLawfulJournal k → ((to : Lcg) × AreByWords pcg64 k.start.config (words_of r.beginning.seed) k.entries to)
-    → lists ≡ lists_in r.lines.items → MakesAll r.lines.items (record { start = start_of r.beginning; entries = [] }) k
-    → (lines_text r.lines.items ≡ lines_text (lines_told r.beginning k.entries lists r.end) → ⊥) → IsOfNoRun r
+untold : (r : Record) (k : Journal) (lists : List (List PageMsg)) → k.start ≡ start_of r.beginning → IsLawfulJournal k → ((to : Lcg) × AreByWords pcg64 k.start.config (words_of r.beginning.seed) k.entries to)
+    → lists ≡ lists_in r.lines.items → MakesAll r.lines.items (begun r) k → (r.lines.items ≡ lines_told r.beginning k.entries lists r.end → ⊥) → IsOfNoRun r
 untold r k lists start lawful words all makes another spelled j took of =
     let same = tells_of_runs r k lists start lawful words all makes spelled j took of in
-    another (ap lines_text (of.lines ∙ sym (told_again r.beginning j.entries k.entries took lists r.end same.0 same.1)))
+    another (of.lines ∙ sym (told_again r.beginning j.entries k.entries took lists r.end same.0 same.1))
+
+-- lists that first differ somewhere aren't the same
+differs : (lines wanted : List Line) (place : ℕ) → IsFirstOther lines wanted place → lines ≡ wanted → ⊥
+differs lines wanted place first same = first.other (ap (λ (ls : List Line). slice_get ls place) same)
+
+-- and from which line on it is another
+pub untold_from : (r : Record) (place : ℕ) (k : Journal) (lists : List (List PageMsg)) → r.beginning.made ≤ LATEST_MOMENT → k.start ≡ start_of r.beginning → IsLawfulJournal k → ((to : Lcg) × AreByWords pcg64 k.start.config (words_of r.beginning.seed) k.entries to)
+    → lists ≡ lists_in r.lines.items → MakesAll r.lines.items (begun r) k → IsFirstOther r.lines.items (lines_told r.beginning k.entries lists r.end) place → IsUntoldFrom r place
+untold_from r place k lists made start lawful words all makes first = record {
+  of_none = untold r k lists start lawful words all makes (differs r.lines.items (lines_told r.beginning k.entries lists r.end) place first);
+  differs = λ _. record {
+    journal = k;
+    start = start;
+    lawful = lawful;
+    words = words;
+    made = makes;
+    first = subst (λ (ls : List (List PageMsg)). IsFirstOther r.lines.items (lines_told r.beginning k.entries ls r.end) place) all first;
+  };
+  late = λ after. absurd (omega (arith, made, after));
+}
 
 -- a member can't have been made then
-pub made_too_late : (r : Record) → LATEST_MOMENT < r.beginning.made → IsOfNoRun r
-made_too_late r late spelled j took of =
-    let in_time : r.beginning.made ≤ LATEST_MOMENT = spelled.beginning.made in
-    absurd (omega arith)
+pub made_too_late : (r : Record) → LATEST_MOMENT < r.beginning.made → IsUntoldFrom r 0
+made_too_late r after = record {
+  of_none = λ spelled j took of. let made : r.beginning.made ≤ LATEST_MOMENT = spelled.beginning.made in absurd (omega (arith, made, after));
+  differs = λ made. absurd (omega (arith, made, after));
+  late = λ _. refl;
+}

@@ -4,6 +4,10 @@ pub mod Records
 pub mod Writing
 pub mod Making
 pub mod Replays
+pub mod Differing
+pub mod Allowances
+pub mod Faults
 pub mod Law
+pub mod FaultExamples
 pub mod RecordExamples
 pub mod Begun

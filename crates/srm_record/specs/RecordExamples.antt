@@ -1,5 +1,5 @@
 -- The worked record of docs/RECORDS.md, by the definitions.
-use Rattle.std.specs.Prelude.{◌≡◌, ℕ, List, [], ◌∷◌, ◌++◌, Option, Some, None, refl}
+use Rattle.std.specs.Prelude.{◌≡◌, ℕ, List, [], ◌∷◌, Option, Some, None, refl}
 use Rattle.std.proofs.Common.{ap, arith}
 use Rattle.srm_names.specs.declared.page_msg.PageMsg.TheVariants as messages
 use Rattle.srm_names.specs.Names.{first_page}

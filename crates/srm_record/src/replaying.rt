@@ -1,6 +1,6 @@
 //! A record's calls, made anew.
 
-ghost use Rattle.std.specs.Prelude.{◌≡◌, ℕ, ◌<◌, ◌≤◌, ◌++◌, ◌∷◌, [], if◌then◌else◌, true, false, vec_len, Err, IfOk, IfSome, MatchOption, OnOk};
+ghost use Rattle.std.specs.Prelude.{◌≡◌, ℕ, ◌<◌, ◌≤◌, ◌++◌, ◌∷◌, [], length, if◌then◌else◌, vec_len, Err, IfErr, IfOk, MatchOption, OnOk};
 ghost use Rattle.std.specs.List.{cons_option};
 ghost use Rattle.rand_pcg.specs.Lcg.{Lcg};
 ghost use Rattle.rand_pcg.specs.Pcg.{pcg64};
@@ -11,16 +11,21 @@ ghost use Rattle.srm_entries.specs.declared.fault.AgentFault.TheVariants.{Memory
 ghost use Rattle.srm_entries.specs.Entries.{last_moment, moments_counted, takes_moment};
 ghost use Rattle.srm_world.specs.Claims.{IsLawfulJournal};
 ghost use Rattle.srm_world.specs.WaitWords.{AreByWords, RecordsByWords};
-ghost use Rattle.srm_frames.specs.Lines.{lines_text};
+ghost use Rattle.srm_record.specs.Allowances.{timers_allowed, timers_in};
 ghost use Rattle.srm_record.specs.Calls.{lines_of};
+ghost use Rattle.srm_record.specs.Differing.{IsFirstOther};
+ghost use Rattle.srm_record.specs.Faults.{begun, recorder_of, IsRetellFault, IsStopped, IsStoppedIn};
 ghost use Rattle.srm_record.specs.Making.{GainsGiven, Makes, MakesAll, Waits};
-ghost use Rattle.srm_record.specs.Replays.{GoesOn, IsOfNoRun, TellsOfRuns, start_of, lines_told};
+ghost use Rattle.srm_record.specs.Replays.{GoesOn, TellsOfRuns, start_of, lines_told};
 ghost use Rattle.srm_record.specs.Takes.{taken_in, takes_at, end_at, took_in, list_in, lists_in};
 
+use crate::allowance::{spend, timers_allowed, would_learn};
+use crate::differing::first_other;
+use crate::fault::RetellFault;
 use crate::taking::{end_at, takes_at};
 use crate::telling::{last_recorded, lines_of};
 use srm_entries::{AgentFault, Entry, Input, Verdict};
-use srm_frames::{Beginning, Call, Line, Record, RecordEnd, put_lines};
+use srm_frames::{Beginning, Call, Line, Record, RecordEnd};
 use srm_names::{LATEST_MOMENT, PAGES, PageMsg};
 use srm_timers::Pcg;
 use srm_world::{Journal, Recorder};
@@ -34,65 +39,66 @@ pub struct Replayed {
 }
 
 /// Makes the calls of a record anew, in a recorder with the same settings and random numbers. Returns what came out, if the record's lines are exactly
-/// those that a member writes who did this. Returns `None` if they aren't: then no run of a member that began so, with these random numbers, has this record.
+/// those that a member writes who did this.
 ///
 /// So the journal is a lawful run of its member, whatever the calls were, and the record is the record of that run. It has an entry for each call, and noise before a give whose moment hadn't come. Every run that has this record did the same: the same calls
-/// acted, with the same entries, and its page workers took the same. Fails only if out of memory. Costs what the member's calls cost, and a step for each byte of the lines.
-#[tactic(auto, using(crate::proofs::Untold::untold, crate::proofs::Untold::tells_of_runs, crate::proofs::Untold::made_too_late))]
-pub fn retell(alloc: Global, read: &Record) -> Result<Option<Replayed>, AllocError>
-    ensures start { IfOk result (λ found. IfSome found (λ r. r.journal.start ≡ start_of read.now.beginning)) }
-    ensures lawful { IfOk result (λ found. IfSome found (λ r. IsLawfulJournal r.journal)) }
-    ensures words { IfOk result (λ found. IfSome found (λ r. (to : Lcg) × AreByWords pcg64 r.journal.start.config (words_of read.now.beginning.seed) r.journal.entries to)) }
-    ensures told { IfOk result (λ found. IfSome found (λ r. lines_text read.now.lines.items ≡ lines_text (lines_told read.now.beginning r.journal.entries (taken_in r.taken.items) read.now.end))) }
-    ensures runs { IfOk result (λ found. IfSome found (λ r. TellsOfRuns read.now r.journal (taken_in r.taken.items))) }
-    ensures slots { IfOk result (λ found. IfSome found (λ r. vec_len r.taken ≡ PAGES)) }
-    ensures made { IfOk result (λ found. IfSome found (λ r. MakesAll read.now.lines.items (record { start = start_of read.now.beginning; entries = [] }) r.journal)) }
-    ensures none { IfOk result (λ found. MatchOption found (IsOfNoRun read.now) (λ _. Unit {0})) }
+/// acted, with the same entries, and its page workers took the same.
+///
+/// Fails with [`RetellFault::TooMuch`] at the first line with which the calls set more timers than [`timers_allowed`]; with [`RetellFault::Untold`] if the lines aren't those: then no run
+/// of a member that began so, with these random numbers, has this record; and with [`RetellFault::Memory`] if out of memory. Costs what the member's calls cost, and a step for each
+/// byte of the lines.
+#[tactic(auto, using(crate::proofs::Untold::untold_from, crate::proofs::Untold::tells_of_runs, crate::proofs::Untold::made_too_late, crate::proofs::Stopping::stopped_fault))]
+pub fn retell(alloc: Global, read: &Record) -> Result<Replayed, RetellFault>
+    ensures start { IfOk result (λ r. r.journal.start ≡ start_of read.now.beginning) }
+    ensures lawful { IfOk result (λ r. IsLawfulJournal r.journal) }
+    ensures words { IfOk result (λ r. (to : Lcg) × AreByWords pcg64 r.journal.start.config (words_of read.now.beginning.seed) r.journal.entries to) }
+    ensures told { IfOk result (λ r. read.now.lines.items ≡ lines_told read.now.beginning r.journal.entries (taken_in r.taken.items) read.now.end) }
+    ensures runs { IfOk result (λ r. TellsOfRuns read.now r.journal (taken_in r.taken.items)) }
+    ensures slots { IfOk result (λ r. vec_len r.taken ≡ PAGES) }
+    ensures made { IfOk result (λ r. MakesAll read.now.lines.items (begun read.now) r.journal) }
+    ensures bounded { IfOk result (λ r. timers_in r.journal.entries ≤ timers_allowed (length read.now.lines.items)) }
+    ensures fault { IfErr result (IsRetellFault read.now) }
 {
     if read.beginning.made > LATEST_MOMENT {
-        return Ok(None);
+        return Err(RetellFault::Untold(0));
     }
     let replayed = replay(alloc, read)?;
-    match is_told(alloc, read, &replayed) {
-        Ok(true) => Ok(Some(replayed)),
-        Ok(false) => Ok(None),
-        Err(error) => Err(error),
+    match first_untold(alloc, read, &replayed) {
+        Ok(None) => Ok(replayed),
+        Ok(Some(place)) => Err(RetellFault::Untold(place)),
+        Err(_) => Err(RetellFault::Memory),
     }
 }
 
 /// Makes the calls of a record anew.
-fn replay(alloc: Global, read: &Record) -> Result<Replayed, AllocError>
+#[tactic(auto, using(crate::proofs::Stopping::stopped_by_memory))]
+fn replay(alloc: Global, read: &Record) -> Result<Replayed, RetellFault>
     requires { read.now.beginning.made ≤ LATEST_MOMENT }
     ensures start { IfOk result (λ r. r.journal.start ≡ start_of read.now.beginning) }
     ensures lawful { IfOk result (λ r. IsLawfulJournal r.journal) }
     ensures words { IfOk result (λ r. (to : Lcg) × AreByWords pcg64 r.journal.start.config (words_of read.now.beginning.seed) r.journal.entries to) }
     ensures slots { IfOk result (λ r. vec_len r.taken ≡ PAGES) }
     ensures lists { IfOk result (λ r. taken_in r.taken.items ≡ lists_in read.now.lines.items) }
-    ensures made { IfOk result (λ r. MakesAll read.now.lines.items (record { start = start_of read.now.beginning; entries = [] }) r.journal) }
+    ensures made { IfOk result (λ r. MakesAll read.now.lines.items (begun read.now) r.journal) }
+    ensures bounded { IfOk result (λ r. timers_in r.journal.entries ≤ timers_allowed (length read.now.lines.items)) }
+    ensures stopped { IfErr result (IsStopped (recorder_of read.now.beginning) read.now.lines.items) }
 {
     let taken = lists(alloc, read.lines.as_slice())?;
     let journal = journal(alloc, read.beginning, read.lines.as_slice())?;
     Ok(Replayed { journal, taken })
 }
 
-/// Whether a record's lines are exactly those of what was replayed.
-fn is_told(alloc: Global, read: &Record, replayed: &Replayed) -> Result<bool, AllocError>
+/// The first place at which a record's lines aren't those of what was replayed.
+fn first_untold(
+    alloc: Global,
+    read: &Record,
+    replayed: &Replayed,
+) -> Result<Option<usize>, AllocError>
     requires { vec_len replayed.now.taken ≤ PAGES }
-    ensures told { IfOk result (λ same. same ≡ true → lines_text read.now.lines.items ≡ lines_text (lines_told read.now.beginning replayed.now.journal.entries (taken_in replayed.now.taken.items) read.now.end)) }
-    ensures another { IfOk result (λ same. same ≡ false → lines_text read.now.lines.items ≡ lines_text (lines_told read.now.beginning replayed.now.journal.entries (taken_in replayed.now.taken.items) read.now.end) → ⊥) }
+    ensures { IfOk result (λ found. let wanted = lines_told read.now.beginning replayed.now.journal.entries (taken_in replayed.now.taken.items) read.now.end in MatchOption found (read.now.lines.items ≡ wanted) (IsFirstOther read.now.lines.items wanted)) }
 {
     let told = told(alloc, read.beginning, read.end, replayed)?;
-    let given = text_of(alloc, read.lines.as_slice())?;
-    let again = text_of(alloc, told.as_slice())?;
-    Ok(given.as_slice() == again.as_slice())
-}
-
-fn text_of(alloc: Global, lines: &[Line]) -> Result<Vec<u8>, AllocError>
-    ensures { IfOk result (λ bytes. bytes.items ≡ lines_text lines.now) }
-{
-    let mut bytes = Vec::new(alloc);
-    put_lines(&mut bytes, lines)?;
-    Ok(bytes)
+    Ok(first_other(read.lines.as_slice(), told.as_slice()))
 }
 
 /// The lines of what was replayed, up to the end if the record has it.
@@ -141,12 +147,15 @@ fn ended(lines: Vec<Line>, last: u64) -> Result<Vec<Line>, AllocError>
 }
 
 /// The journal that a member has of these calls, made so and with the random numbers of this seed.
-fn journal(alloc: Global, beginning: Beginning, lines: &[Line]) -> Result<Journal, AllocError>
+#[tactic(auto, using(crate::proofs::Stopping::stopped_by_memory))]
+fn journal(alloc: Global, beginning: Beginning, lines: &[Line]) -> Result<Journal, RetellFault>
     requires { beginning.made ≤ LATEST_MOMENT }
     ensures start { IfOk result (λ j. j.start ≡ start_of beginning) }
     ensures words { IfOk result (λ j. (to : Lcg) × AreByWords pcg64 j.start.config (words_of beginning.seed) j.entries to) }
     ensures lawful { IfOk result IsLawfulJournal }
     ensures made { IfOk result (MakesAll lines.now (record { start = start_of beginning; entries = [] })) }
+    ensures bounded { IfOk result (λ j. timers_in j.entries ≤ timers_allowed (length lines.now)) }
+    ensures stopped { IfErr result (IsStopped (recorder_of beginning) lines.now) }
 {
     let Beginning {
         config,
@@ -159,33 +168,51 @@ fn journal(alloc: Global, beginning: Beginning, lines: &[Line]) -> Result<Journa
 }
 
 /// The journal of a recorder that these calls were made of, whose last moment is this.
-#[tactic(auto, using(crate::proofs::GoingOn::records_to_end))]
-fn played(recorder: Recorder<Pcg>, clock: u64, lines: &[Line]) -> Result<Journal, AllocError>
-    requires { clock ≡ last_moment recorder.journal.start.made recorder.journal.entries }
+#[tactic(auto, using(crate::proofs::GoingOn::records_to_end, crate::proofs::Stopping::stopped_there))]
+fn played(recorder: Recorder<Pcg>, clock: u64, lines: &[Line]) -> Result<Journal, RetellFault>
+    requires clock { clock ≡ last_moment recorder.journal.start.made recorder.journal.entries }
+    requires begun { recorder.journal.entries ≡ [] }
     ensures start { IfOk result (λ j. j.start ≡ recorder.journal.start) }
     ensures words { IfOk result (λ j. (to : Lcg) × RecordsByWords pcg64 recorder (record { journal = j; words = to; begins = recorder.begins })) }
     ensures lawful { IfOk result IsLawfulJournal }
     ensures made { IfOk result (MakesAll lines.now recorder.journal) }
+    ensures bounded { IfOk result (λ j. timers_in j.entries ≤ timers_allowed (length lines.now)) }
+    ensures stopped { IfErr result (IsStopped recorder lines.now) }
 {
     let mut recorder = recorder;
-    match make_all(&mut recorder, clock, lines) {
-        Ok(()) => Ok(recorder.finish()),
-        Err(error) => Err(error),
+    let made = make_all(&mut recorder, clock, lines);
+    let journal = recorder.finish();
+    match made {
+        Ok(()) => Ok(journal),
+        Err(fault) => Err(fault),
     }
 }
 
-#[tactic(auto, using(crate::proofs::GoingOn::stays, crate::proofs::GoingOn::goes_on_more, crate::proofs::Making::makes_next, crate::proofs::Making::no_fewer, crate::proofs::Making::clock_goes_on))]
-fn make_all(recorder: &mut Recorder<Pcg>, clock: u64, lines: &[Line]) -> Result<(), AllocError>
-    requires { clock ≡ last_moment recorder.old.journal.start.made recorder.old.journal.entries }
+/// Makes the calls of lines, of a member that did nothing yet, as long as they set no more timers than they may.
+#[tactic(auto, using(crate::proofs::GoingOn::stays, crate::proofs::GoingOn::goes_on_more, crate::proofs::Making::makes_next, crate::proofs::Making::no_fewer, crate::proofs::Making::clock_goes_on, crate::proofs::Stopping::all_left, crate::proofs::Stopping::set_too_many, crate::proofs::Stopping::would_set_too_many, crate::proofs::Stopping::left_behind, crate::proofs::Stopping::stopped_in_memory))]
+fn make_all(recorder: &mut Recorder<Pcg>, clock: u64, lines: &[Line]) -> Result<(), RetellFault>
+    requires clock { clock ≡ last_moment recorder.old.journal.start.made recorder.old.journal.entries }
+    requires begun { recorder.old.journal.entries ≡ [] }
     ensures goes { GoesOn pcg64 recorder.old recorder.new }
     ensures makes { OnOk result (MakesAll lines.now recorder.old.journal recorder.new.journal) }
+    ensures bounded { OnOk result (timers_in recorder.new.journal.entries ≤ timers_allowed (length lines.now)) }
+    ensures stopped { IfErr result (IsStoppedIn lines.now recorder.old.journal recorder.new.journal) }
 {
     let mut clock = clock;
-    for line in lines {
+    let mut left = timers_allowed(lines.len());
+    for (place, line) in lines.iter().enumerate() {
+        let learned = would_learn(recorder, &line.call)?;
+        if learned > left {
+            return Err(RetellFault::TooMuch(place));
+        }
         let seen = recorder.entries().len();
         make(recorder, &line.call, line.moment.min(LATEST_MOMENT), clock)?;
         let (_, added) = recorder.entries().split_at(seen);
         clock = clock_after(clock, added);
+        let Some(rest) = spend(left, added) else {
+            return Err(RetellFault::TooMuch(place));
+        };
+        left = rest;
     }
     Ok(())
 }

@@ -3,4 +3,7 @@ pub mod AuditStatuses
 pub mod Examples
 pub mod Shown
 pub mod TextExamples
+pub mod Calls
+pub mod DetailExamples
+pub mod Details
 pub mod VerdictTexts

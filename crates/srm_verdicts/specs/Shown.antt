@@ -1,17 +1,20 @@
 -- What standard output has once records were judged.
-use Rattle.std.specs.Prelude.{◌≡◌, ◌⊎◌, ℕ, List, length, All, Option}
+use Rattle.std.specs.Prelude.{◌≡◌, ◌⊎◌, ℕ, List, length, All, Option, string_bytes}
 use Rattle.std.specs.Io.KnownBytes.{Appends, Keeps}
 use Rattle.srm_output.specs.Writing.{AppendsFront}
 use Rattle.srm_frames.specs.declared.reading.Record.{Record}
 use Rattle.srm_frames.specs.WhatIsRead.{IsRecordIn, seen}
 use Rattle.srm_options.specs.declared.audit.AuditOutput.{AuditOutput}
 use Rattle.srm_options.specs.declared.audit.AuditOutput.TheVariants.{Script, Picture}
-use Rattle.srm_audited.specs.Verdicts.{IsVerdict}
+use Rattle.srm_audited.specs.Verdicts.{IsUnjudged, IsVerdict}
+use Rattle.srm_audited.specs.declared.unjudged.Unjudged.{Unjudged}
+use Rattle.srm_audited.specs.declared.unjudged.Unjudged.TheVariants as unjudgeds
 use Rattle.srm_audited.specs.declared.verdict.Verdict.{Verdict}
 use Rattle.srm_audited.specs.declared.verdict.Verdict.TheVariants.{Honest}
 use Rattle.srm_verdicts.specs.declared.fault.AuditFault.{AuditFault}
 use Rattle.srm_verdicts.specs.declared.fault.AuditFault.TheVariants as faults
 use Rattle.srm_verdicts.specs.AuditStatuses.{status_of, status_of_fault}
+use Rattle.srm_verdicts.specs.Details.{path_at}
 use Rattle.srm_verdicts.specs.VerdictTexts.{verdict_text}
 
 -- A verdict is shown in words, but an honest run as a script or a picture where one is asked for.
@@ -44,13 +47,19 @@ IsUnshown Script (Honest t) (faults.NoScript why) = Unit {0}
 IsUnshown Picture (Honest t) (faults.NoScript why) = Unit {0}
 IsUnshown output v fault = ⊥
 
--- a fault for which no verdict on these records was printed
-abbrev pub IsUnprinted : AuditOutput → List Record → AuditFault → Type 0
-IsUnprinted output rs fault = (fault ≡ faults.Memory) ⊎ ((v : Verdict) × IsVerdict rs v × IsUnshown output v fault)
+-- What is told where records weren't judged: of the one that is at fault, its path and the line; or that memory ran out.
+abbrev pub IsFaultOf : List (List ℕ) → Unjudged → AuditFault → Type 0
+IsFaultOf paths unjudged faults.Memory = Unit {0}
+IsFaultOf paths (unjudgeds.TooMuch place line) (faults.TooMuch path told) = (string_bytes path ≡ path_at paths place) × (told ≡ line)
+IsFaultOf paths unjudged fault = ⊥
+
+-- a fault for which no verdict on these records was printed: they weren't judged, or the verdict isn't shown as asked
+abbrev pub IsUnprinted : AuditOutput → List (List ℕ) → List Record → AuditFault → Type 0
+IsUnprinted output paths rs fault = ((unjudged : Unjudged) × IsUnjudged rs unjudged × IsFaultOf paths unjudged fault) ⊎ ((v : Verdict) × IsVerdict rs v × IsUnshown output v fault)
 
 -- What is printed where a fault came of these records: nothing where there is no text, and else a front of one.
 abbrev pub Leaves : AuditOutput → List (List ℕ) → List Record → AuditFault → Option (List ℕ) → Option (List ℕ) → Type 0
-Leaves output paths rs fault old new = (IsUnprinted output rs fault × Keeps old new) ⊎ (((fault ≡ faults.Memory) ⊎ (fault ≡ faults.Output)) × IsCutShort output paths rs old new)
+Leaves output paths rs fault old new = (IsUnprinted output paths rs fault × Keeps old new) ⊎ (((fault ≡ faults.Memory) ⊎ (fault ≡ faults.Output)) × IsCutShort output paths rs old new)
 
 -- ---- of files
 
@@ -69,6 +78,7 @@ pub record AreRead (paths : List (List ℕ)) (rs : List Record) : Type 0 where
 -- a fault for which they weren't read
 abbrev pub IsUnread : AuditFault → Type 0
 IsUnread (faults.NoScript why) = ⊥
+IsUnread (faults.TooMuch path line) = ⊥
 IsUnread faults.Output = ⊥
 IsUnread fault = Unit {0}
 

@@ -34,7 +34,8 @@ undecided : verdict_text [] [] Undecided ≡ codes "undecided: session 0, 0 of 0
 unfolding digits
 undecided = refl
 
-untold : verdict_text (codes "a" ∷ codes "b" ∷ []) [] (NotHonest (Untold 1)) ≡ codes "not honest: b isn't the record of any run of its member\n"
+untold : verdict_text (codes "a" ∷ codes "b" ∷ []) [] (NotHonest (Untold 1 20)) ≡ codes "not honest: b isn't the record of any run of its member\nframe 20 of b is the first that differs when its calls are made again\n"
+unfolding digits
 untold = refl
 
 roster : verdict_text [] [] (NotHonest Roster) ≡ codes "not honest: the records aren't of different members of one session\n"

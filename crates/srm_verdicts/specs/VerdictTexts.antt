@@ -1,9 +1,9 @@
 -- What `srm audit` prints of a verdict on records, which come of files with these paths.
-use Rattle.std.specs.Prelude.{ℕ, ◌+◌, ◌-◌, ◌^◌, ◌==◌, nat_lt, min, if◌then◌else◌, List, [], ◌∷◌, ◌++◌, length, map, sum_by, filter, find, zip, flat_map, slice_get, unwrap_or, codes, Bool, true, false, Option, Some, None}
+use Rattle.std.specs.Prelude.{ℕ, ◌+◌, ◌-◌, ◌^◌, ◌==◌, nat_lt, min, if◌then◌else◌, List, [], ◌∷◌, ◌++◌, length, map, sum_by, filter, find, zip, flat_map, codes, Bool, true, false, Option, Some, None}
 use Rattle.std.specs.Fmt.{decimal}
 use denote.Ref.{Bor}
 use Rattle.srm_frames.specs.declared.line.Call.{Call}
-use Rattle.srm_frames.specs.declared.line.Call.TheVariants.{Gave, Took, Ended}
+use Rattle.srm_frames.specs.declared.line.Call.TheVariants.{Gave}
 use Rattle.srm_frames.specs.declared.line.Line.{Line}
 use Rattle.srm_frames.specs.declared.reading.Record.{Record}
 use Rattle.srm_audited.specs.Sessions.{is_cut}
@@ -11,6 +11,8 @@ use Rattle.srm_audited.specs.declared.verdict.Reason.{Reason}
 use Rattle.srm_audited.specs.declared.verdict.Reason.TheVariants.{Untold, Roster, Foreign, Unsent}
 use Rattle.srm_audited.specs.declared.verdict.Verdict.{Verdict}
 use Rattle.srm_audited.specs.declared.verdict.Verdict.TheVariants.{Honest, NotHonest, Undecided}
+use Rattle.srm_verdicts.specs.Details.{detail, path_at}
+pub use Rattle.srm_verdicts.specs.Calls.{is_call, calls_among}
 
 -- the paths of the records' files
 abbrev pub paths_of : List (Bor (List ℕ)) → List (List ℕ)
@@ -18,15 +20,9 @@ paths_of paths = map (λ (path : Bor (List ℕ)). path.now) paths
 
 -- ---- what is counted
 
--- a line is a call of the member, not what a page worker took or that the member ended
-abbrev pub is_call : Call → Bool
-is_call (Took slot message) = false
-is_call Ended = false
-is_call call = true
-
 -- how many calls of its member a record has
 abbrev pub calls_in : Record → ℕ
-calls_in r = length (filter (λ (l : Line). is_call l.call) r.lines.items)
+calls_in r = calls_among r.lines.items
 
 -- how many all records have, counted up to 2^64 - 1
 abbrev pub calls_in_all : List Record → ℕ
@@ -86,7 +82,7 @@ abbrev pub honest_line : List Record → List ℕ
 honest_line rs = codes "honest: session " ++ (decimal (session_of rs) ++ (codes ", " ++ (counted (members_of rs) (codes "member") ++ (codes ", " ++ (counted (calls_in_all rs) (codes "call") ++ codes "\n")))))
 
 abbrev pub reason_line : List (List ℕ) → List Record → Reason → List ℕ
-reason_line paths rs (Untold place) = codes "not honest: " ++ (unwrap_or (slice_get paths place) [] ++ codes " isn't the record of any run of its member\n")
+reason_line paths rs (Untold place line) = codes "not honest: " ++ (path_at paths place ++ codes " isn't the record of any run of its member\n")
 reason_line paths rs Roster = codes "not honest: the records aren't of different members of one session\n"
 reason_line paths rs (Foreign member slot) = codes "not honest: the worker of page slot " ++ (decimal slot ++ (codes " of member " ++ (decimal member ++ codes " took what it wasn't given\n")))
 reason_line paths rs (Unsent member entry) = codes "not honest: call " ++ (decimal (call_of_entry rs member entry) ++ (codes " of member " ++ (decimal member ++ codes " hears a datagram that nobody can have sent before\n")))
@@ -96,7 +92,7 @@ undecided_line rs = codes "undecided: session " ++ (decimal (session_of rs) ++ (
 
 abbrev pub verdict_line : List (List ℕ) → List Record → Verdict → List ℕ
 verdict_line paths rs (Honest t) = honest_line rs
-verdict_line paths rs (NotHonest reason) = reason_line paths rs reason
+verdict_line paths rs (NotHonest reason) = reason_line paths rs reason ++ detail paths rs reason
 verdict_line paths rs Undecided = undecided_line rs
 
 abbrev pub cut_text : Bool → List ℕ

@@ -12,7 +12,14 @@ use srm_names::Member;
 pub fn calls_in(read: &Record) -> usize
     ensures { result ≡ spec.calls_in read.now }
 {
-    read.lines.iter().filter(|line| is_call(&line.call)).count()
+    calls_among(read.lines.as_slice())
+}
+
+/// Returns how many of these lines are calls.
+pub fn calls_among(lines: &[Line]) -> usize
+    ensures { result ≡ spec.calls_among lines.now }
+{
+    lines.iter().filter(|line| is_call(&line.call)).count()
 }
 
 /// Returns how many calls all records have. Counts up to 2^64 - 1.
@@ -101,7 +108,8 @@ fn entries_of(last: u64, line: &Line) -> usize
     }
 }
 
-fn is_call(call: &Call) -> bool
+/// Returns whether a line is a call of the member, and not what a page worker took or that the member ended.
+pub fn is_call(call: &Call) -> bool
     ensures { result ≡ spec.is_call call.now }
 {
     !matches!(call, Call::Took(_, _) | Call::Ended)

@@ -24,6 +24,9 @@ pub enum AuditFault {
     /// The file at this path is no record.
     #[error("srm: cannot use record {0}: {1}")]
     NoRecord(String, RecordFault),
+    /// The record in the file at this path isn't judged: its calls set too many timers at this frame, from 0.
+    #[error("srm: cannot use record {0}: its calls up to frame {1} set too many timers for its length")]
+    TooMuch(String, usize),
     /// The session is honest, and can't be written as a script or drawn.
     #[error("{0}")]
     NoScript(NoScript),

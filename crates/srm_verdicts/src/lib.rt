@@ -14,6 +14,7 @@
 #![tactic(auto)]
 
 mod counting;
+mod detailing;
 mod drawing;
 mod fault;
 mod no_script;

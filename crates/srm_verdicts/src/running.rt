@@ -4,15 +4,16 @@ ghost use Rattle.std.specs.Prelude.{◌≡◌, ◌⊎◌, IfErr, IfOk, OnErr, On
 ghost use Rattle.std.specs.Io.KnownBytes.{Appends, Keeps};
 ghost use Rattle.srm_audited.specs.Verdicts.{IsVerdict};
 ghost use Rattle.srm_output.specs.Writing.{AppendsFront};
-ghost use Rattle.srm_verdicts.specs.Shown.{IsAudited, IsOfVerdict, IsPrinted, IsPrintedOfFiles, Leaves, LeavesOfFiles};
+ghost use Rattle.srm_verdicts.specs.Shown.{IsAudited, IsOfVerdict, IsFaultOf, IsPrinted, IsPrintedOfFiles, Leaves, LeavesOfFiles};
 ghost use Rattle.srm_verdicts.specs.VerdictTexts.{paths_of};
 ghost use Rattle.srm_verdicts.specs.declared.fault.AuditFault.TheVariants.{Memory, Output};
 
+use crate::detailing::path_at;
 use crate::fault::AuditFault;
 use crate::reading::read_records;
 use crate::showing::shown_text;
 use crate::status::status_of;
-use srm_audited::{Verdict, audit};
+use srm_audited::{Unjudged, Verdict, audit};
 use srm_frames::Record;
 use srm_options::AuditOptions;
 use srm_output::write_bytes;
@@ -24,7 +25,7 @@ use std::rt::Files;
 /// Reads the records in the options' files, in any order, and prints to `out` whether they are one honest run of all members of a session, or that run as the options ask for it. A
 /// fault goes to `err`, and nothing else is printed then, unless the output failed.
 ///
-/// Returns the program's status: 0 if they are; 1 if a file can't be read or is no record, the run can't be printed as asked, or the output fails; 4 if memory ran out;
+/// Returns the program's status: 0 if they are; 1 if a file can't be read or is no record, a record's calls set too many timers, the run can't be printed as asked, or the output fails; 4 if memory ran out;
 /// [`NOT_HONEST`](crate::NOT_HONEST), 6, if they are no honest run; [`UNDECIDED`](crate::UNDECIDED), 7, if a record is missing or cut and their calls may be of one.
 pub fn run_audit<R: Files + AllocGlobal, O: Write, E: Write>(
     rt: &R,
@@ -59,7 +60,7 @@ fn run<R: Files + AllocGlobal, O: Write>(
 /// Judges records that were read of the options' files, in their order, and prints to `out` the verdict, or the run as the options ask for it. Returns the status of the
 /// verdict, as [`run_audit`] does.
 ///
-/// Fails with [`AuditFault::NoScript`] if the run is honest and can't be printed as asked, with [`AuditFault::Output`] if `out` does, and if out of memory. Nothing is printed
+/// Fails with [`AuditFault::TooMuch`] if a record's calls set more timers than one of its length may, with [`AuditFault::NoScript`] if the run is honest and can't be printed as asked, with [`AuditFault::Output`] if `out` does, and if out of memory. Nothing is printed
 /// then, unless `out` failed: it has a front of the text.
 pub fn print_audit<O: Write>(
     alloc: Global,
@@ -73,7 +74,20 @@ pub fn print_audit<O: Write>(
 {
     match audit(alloc, records) {
         Ok(verdict) => print(alloc, options, records, &verdict, out),
-        Err(_) => Err(AuditFault::Memory),
+        Err(unjudged) => Err(unjudged_fault(alloc, options.files.as_slice(), unjudged)),
+    }
+}
+
+// Why records from files with these paths weren't judged.
+fn unjudged_fault(alloc: Global, paths: &[&str], unjudged: Unjudged) -> AuditFault
+    ensures { IsFaultOf (paths_of paths.now) unjudged result }
+{
+    let Unjudged::TooMuch { place, line } = unjudged else {
+        return AuditFault::Memory;
+    };
+    match String::from_str(alloc, path_at(paths, place)) {
+        Ok(path) => AuditFault::TooMuch(path, line),
+        Err(_) => AuditFault::Memory,
     }
 }
 

@@ -2,14 +2,16 @@
 
 ghost use Rattle.std.specs.Prelude.{◌≡◌, string_bytes, IfOk};
 ghost use Rattle.srm_audited.specs.Sessions.{is_cut};
+ghost use Rattle.srm_audited.specs.declared.verdict.Verdict.TheVariants.{NotHonest};
 ghost use Rattle.srm_verdicts.specs.VerdictTexts as spec;
 
 use crate::counting::{call_of_entry, calls_in, calls_in_all, cuts_in, is_cut, session_of};
+use crate::detailing::{detail, path_at};
 use srm_audited::{Reason, Verdict};
 use srm_frames::Record;
 use std::alloc::{AllocError, Global};
 
-/// Returns a verdict on records as a line, and behind it a line for each record: its member, its path, how many calls it has, and whether it is cut. The paths are those of the
+/// Returns a verdict on records as a line, perhaps one that says where in the files a reason stands, and behind it a line for each record: its member, its path, how many calls it has, and whether it is cut. The paths are those of the
 /// records, in their order.
 ///
 /// Fails only if out of memory.
@@ -39,7 +41,7 @@ fn verdict_line(
 {
     match verdict {
         Verdict::Honest(_) => honest_line(alloc, records),
-        Verdict::NotHonest(reason) => reason_line(alloc, paths, records, *reason),
+        Verdict::NotHonest(reason) => reason_lines(alloc, paths, records, reason),
         Verdict::Undecided => undecided_line(alloc, records),
     }
 }
@@ -53,6 +55,21 @@ fn honest_line(alloc: Global, records: &[Record]) -> Result<String, AllocError>
     format!(in alloc; "honest: session {session}, {members}, {calls}\n")
 }
 
+// A reason, and where it stands in the files.
+fn reason_lines(
+    alloc: Global,
+    paths: &[&str],
+    records: &[Record],
+    reason: &Reason,
+) -> Result<String, AllocError>
+    ensures { IfOk result (λ text. string_bytes text ≡ spec.verdict_line (spec.paths_of paths.now) records.now (NotHonest reason.now)) }
+{
+    let mut text = reason_line(alloc, paths, records, *reason)?;
+    let more = detail(alloc, paths, records, *reason)?;
+    text.push_str(more.as_str())?;
+    Ok(text)
+}
+
 fn reason_line(
     alloc: Global,
     paths: &[&str],
@@ -62,8 +79,8 @@ fn reason_line(
     ensures { IfOk result (λ text. string_bytes text ≡ spec.reason_line (spec.paths_of paths.now) records.now reason) }
 {
     match reason {
-        Reason::Untold { place } => {
-            let path = paths.get(place).copied().unwrap_or("");
+        Reason::Untold { place, .. } => {
+            let path = path_at(paths, place);
             format!(in alloc; "not honest: {path} isn't the record of any run of its member\n")
         }
         Reason::Roster => String::from_str(
