@@ -1,10 +1,10 @@
-//! The key file of a member.
+//! The key of a member.
 
 ghost use Rattle.std.specs.Prelude.{◌≡◌, is_some, IfOk, IfSome};
-ghost use Rattle.srm_guarded.specs.Keying.{IsAllOf, IsKeyRead};
+ghost use Rattle.srm_guarded.specs.Keying.{IsAllOf, IsKeyOf, IsKeyRead};
 
 use srm_guard::{Key, KeyFault};
-use srm_options::GuardOptions;
+use srm_options::{GuardOptions, KeySource};
 use std::alloc::{AllocError, Global};
 use std::fs::File;
 use std::io::{ErrorKind, Read};
@@ -20,6 +20,9 @@ pub enum KeyFileFault {
     /// The file at this path doesn't have 16 to 1,024 bytes.
     #[error("srm: cannot use key {0}: not 16 to 1024 bytes")]
     Length(String),
+    /// The key of the member's room doesn't have 16 to 1,024 bytes. A room that was read always has.
+    #[error("srm: cannot use the room's key: not 16 to 1024 bytes: make a new room")]
+    RoomLength,
     /// The system doesn't tell the time of day, or tells one before 1970.
     #[error("srm: cannot use a key without the time of day: set the clock")]
     NoTime,
@@ -34,10 +37,11 @@ impl From<AllocError> for KeyFileFault {
     }
 }
 
-#[tactic(auto, using(crate::proofs::Keying::key_of_file, crate::proofs::Keying::no_key))]
-/// Reads the key from the file that the options name: all of its bytes, 16 to 1,024. Returns `None` if they name none. Fails with [`KeyFileFault::Unreadable`] and
-/// the cause if the file can't be opened or read, [`KeyFileFault::Length`] if it has another length, and [`KeyFileFault::Memory`] if out of memory. It reads at most
-/// 1,025 bytes.
+#[tactic(auto, using(crate::proofs::Keying::key_of_source, crate::proofs::Keying::no_key))]
+/// Returns the key of a member, 16 to 1,024 bytes: all bytes of the file that the options name, or those that its room has. Returns `None` if the options name neither.
+///
+/// Fails with [`KeyFileFault::Unreadable`] and the cause if the file can't be opened or read, [`KeyFileFault::Length`] or [`KeyFileFault::RoomLength`] if the key has another length, and
+/// [`KeyFileFault::Memory`] if out of memory. It reads at most 1,025 bytes of a file.
 pub fn read_key<R: Files>(
     rt: &R,
     alloc: Global,
@@ -46,12 +50,32 @@ pub fn read_key<R: Files>(
     ensures asked { IfOk result (λ key. is_some key ≡ is_some guard.now.key) }
     ensures whole { IfOk result (λ key. IsKeyRead R.File.remaining guard.now.key key) }
 {
-    let Some(path) = &guard.key else {
+    let Some(source) = &guard.key else {
         return Ok(None);
     };
-    match read_file(rt, alloc, path.as_str()) {
+    match read_source(rt, alloc, source) {
         Ok(key) => Ok(Some(key)),
         Err(fault) => Err(fault),
+    }
+}
+
+// Returns the key that a source has.
+fn read_source<R: Files>(rt: &R, alloc: Global, source: &KeySource) -> Result<Key, KeyFileFault>
+    ensures { IfOk result (λ key. IsKeyOf R.File.remaining source.now key) }
+{
+    match source {
+        KeySource::File(path) => read_file(rt, alloc, path.as_str()),
+        KeySource::Room(bytes) => key_of(alloc, bytes.as_slice()),
+    }
+}
+
+// Returns the key that a room has.
+fn key_of(alloc: Global, bytes: &[u8]) -> Result<Key, KeyFileFault>
+    ensures { IfOk result (λ key. key ≡ bytes.now) }
+{
+    match Key::new(Vec::from_slice(alloc, bytes)?) {
+        Some(key) => Ok(key),
+        None => Err(KeyFileFault::RoomLength),
     }
 }
 

@@ -1,7 +1,7 @@
 //! A member's wire over UDP with its guard, as the member's options say.
 //!
 //! ```
-//! let key = read_key(&rt, alloc, &options.guard)?; // from the file that `--key` names
+//! let key = read_key(&rt, alloc, &options.guard)?; // of the file that `--key` names, or of the room
 //! let seal = seal_by(&rt, alloc, key, options.config.me())?; // numbers and tags what this member sends, from the time of day on
 //! let Guarded { wire, waker, failure } = bind_guarded(&rt, alloc, options.config, &options.guard, seal, options.addresses)?;
 //! ```

@@ -1,7 +1,8 @@
 //! The command line of `srm audit`.
 
 use crate::help::{AUDIT, AUDIT_HELP};
-use crate::node::flag;
+use crate::names::Names;
+use crate::node::{flag, option};
 use crate::reply::Reply;
 use clap::{Arg, ArgAction, Command};
 use std::alloc::{AllocError, Global};
@@ -24,6 +25,10 @@ pub struct AuditOptions<'a> {
     pub files: Vec<&'a str>,
     /// How an honest session is printed.
     pub output: AuditOutput,
+    /// The path of the file of the room that names the members, if one does.
+    pub room: Option<&'a str>,
+    /// What the members are called. Whoever reads the room puts its names here.
+    pub names: Names,
 }
 
 /// Reads the arguments behind `srm audit`. Fails with [`Reply::Help`] for `--help`, [`Reply::Wrong`] if there is no file, another option or both options, and
@@ -42,7 +47,13 @@ pub fn read_audit<'a>(alloc: Global, arguments: &'a [&'a str]) -> Result<AuditOp
     } else {
         AuditOutput::Words
     };
-    Ok(AuditOptions { files, output })
+    let room = matches.get_str("room");
+    Ok(AuditOptions {
+        files,
+        output,
+        room,
+        names: Names::none(alloc),
+    })
 }
 
 /// Makes the command, for its own arguments and for the help on all commands.
@@ -59,5 +70,6 @@ pub(crate) fn audit_command<'a>(alloc: Global) -> Result<Command<'a>, AllocError
         .override_help(AUDIT_HELP)
         .arg(script)?
         .arg(flag(alloc, "picture", "as a picture"))?
+        .arg(option(alloc, "room", "FILE", "the room that names the members"))?
         .arg(files)
 }

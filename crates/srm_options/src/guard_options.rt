@@ -3,6 +3,7 @@
 ghost use Rattle.std.specs.Prelude.{◌↔◌, IsTrue};
 ghost use Rattle.srm_options.specs.Options.{IsInGuardRange};
 
+use crate::key_source::KeySource;
 use crate::mistake::Mistake;
 use crate::node::{flag, option};
 use crate::path_option::path_in;
@@ -18,8 +19,8 @@ pub const MOST_MISSING: u32 = DRAWOPS * MEMBERS as u32 * PAGES as u32;
 pub struct GuardOptions {
     /// Whether it drops what doesn't come from an address of the roster, and what names another sender than the member of its address.
     pub only_roster: bool,
-    /// The path of the key file that all members share. With it the node numbers and tags what it sends, and drops what has no right tag or came before.
-    pub key: Option<String>,
+    /// Where the key that all members share comes from. With it the node numbers and tags what it sends, and drops what has no right tag or came before.
+    pub key: Option<KeySource>,
     /// How many drawops may be missing, 1 to 16,777,216: the node drops a datagram that would make more missing. `None` for no limit.
     pub most_missing: Option<u32>,
 }
@@ -77,9 +78,10 @@ pub fn guard_in<'a>(
     if only_roster && any_origin {
         return Err(Mistake::Origins);
     }
+    let key = path_in(alloc, matches, "key")?;
     Ok(GuardOptions {
         only_roster: only_roster || (live && !any_origin),
-        key: path_in(alloc, matches, "key")?,
+        key: key.map(KeySource::File),
         most_missing: matches.get_one::<u32>("most-missing"),
     })
 }

@@ -29,6 +29,7 @@ pub const AUDIT: &str = "Judges the records of a session's members, and prints a
 pub const AUDIT_HELP: &str = "usage: srm audit FILE..
        srm audit --script FILE.. > SESSION.script
        srm audit --picture FILE.. > SESSION.svg
+       srm audit --room ROOM FILE..
 
 Reads the records of the members of a session, one a file, in any order. Makes all
 calls anew, and tells whether what the members heard was sent, and what their page
@@ -42,6 +43,8 @@ for each record with its member, its calls, and whether it is cut:
 Not honest: no honest run has these records, whatever stands behind their cuts and
 in records that are missing; a call counts from 0 in its record. Undecided: a record
 is missing or cut, and its member may have sent what others heard.
+
+With --room members have the names of that room, and else numbers.
 
 An honest session is printed in place of these lines: with --script as a script for
 `srm world --extended`, with --picture as a picture as `srm picture` draws them. What
@@ -158,4 +161,34 @@ Status: 0; 1 for a key that can't be used, or for a record that can't be made or
 written whole; 2 for a wrong command line; 3 where the page can't be served, the
 address can't be bound or the socket fails; 4 for want of memory, or where all turns
 were spent; 5 where all went well but the member was in the session before.
+";
+
+/// What `srm room` does.
+pub const ROOM: &str =
+    "Makes, prints, takes and checks a room: what the members of a session have in common";
+
+/// What `srm room --help` prints.
+pub const ROOM_HELP: &str = "usage: srm room new FILE NAME=ADDR..
+       srm room show FILE
+       srm room take FILE < ROOM
+       srm room check FILE
+
+A room is a file that all members of a session have. It has the session's number, its
+key, each member's name and address, and settings, as TOML. Who has it can draw and
+read what is drawn, so give it to nobody else.
+
+  new     makes it for 1 to 32 members, with a random session and key. A member that
+          joins later needs its place now: add a spare, as spare=192.0.2.7:47109
+  show    prints it, to be pasted on another machine
+  take    writes what is pasted
+  check   says what it has, and which of its addresses this machine has
+
+A NAME has 1 to 40 characters without space, control character or '=', and isn't a
+number. An ADDR is 192.0.2.7:47100, [2001:db8::7]:47100 or host:47100. A FILE that is
+written must not exist, and only its owner may read it.
+
+To join: srm node --room FILE --me NAME --live, or srm board --room FILE --me NAME.
+
+Status: 0; 1 for a file that is no room, or that can't be read, made or written, or
+where a stream fails; 2 for a wrong command line; 4 for want of memory.
 ";

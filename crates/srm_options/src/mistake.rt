@@ -32,6 +32,14 @@ pub enum Mistake<'a> {
     Open(&'a str),
     #[error("'--only-roster' and '--any-origin' don't go together: leave one out")]
     Origins,
+    #[error("'{0}' with '--room': the room says it for all members, so leave it out")]
+    BesideRoom(&'a str),
+    #[error("'{0}' with '--room': the room has the addresses, so leave it out")]
+    AddressBesideRoom(&'a str),
+    #[error("'--me <NAME>' is missing: name one of the room's members, or its place, from 0")]
+    NoName,
+    #[error("'--room <FILE>' stands there twice: leave one out")]
+    Rooms,
     #[error("an option is missing or out of its range")]
     Range,
     #[error("out of memory")]

@@ -8,6 +8,7 @@ use crate::guard_options::{guard_in, with_guard};
 use crate::help::{NODE, NODE_MORE};
 use crate::live_defaults::{LIVE_LINGER, live_settings};
 use crate::mistake::Mistake;
+use crate::names::Names;
 use crate::node_options::{LONGEST_LINGER, NodeOptions};
 use crate::path_option::path_in;
 use crate::reply::Reply;
@@ -84,13 +85,21 @@ pub(crate) fn node_command<'a>(alloc: Global, live: bool) -> Result<Command<'a>,
         .about(NODE)
         .after_help(NODE_MORE);
     let command = with_limits(alloc, with_member(alloc, command, live)?, live)?;
+    let room = option(
+        alloc,
+        "room",
+        "FILE",
+        "the room's file, which has the session, the key, the settings and all addresses: srm node --room FILE --me NAME",
+    );
     let record = option(
         alloc,
         "record",
         "FILE",
         "writes what the member is handed and what its page workers took to this file, which must not exist; srm audit judges it",
     );
-    with_addresses(alloc, with_guard(alloc, command)?)?.arg(record)
+    with_addresses(alloc, with_guard(alloc, command)?)?
+        .arg(record)?
+        .arg(room)
 }
 
 /// An option with a value.
@@ -114,7 +123,7 @@ fn with_member<'a>(
         alloc,
         "me",
         "M",
-        "this member: the place of its address, from 0",
+        "this member: the place of its address, from 0; in a room also its name",
     )
     .required(true)
     .value_parser(value_parser!(u8));
@@ -257,6 +266,9 @@ pub(crate) fn options_in<'a, S: Resolve>(
     matches: &ArgMatches<'a>,
     names: &S,
 ) -> Result<NodeOptions, Mistake<'a>> {
+    if matches.contains_id("room") {
+        return Err(Mistake::Rooms);
+    }
     let texts = matches.get_strs("ADDR").unwrap_or(&[]);
     let live = matches.get_flag("live");
     let addresses = addresses_in(alloc, texts, live, names)?;
@@ -283,6 +295,7 @@ pub(crate) fn options_in<'a, S: Resolve>(
         verbose: matches.get_flag("verbose"),
         guard: guard_in(alloc, matches, live)?,
         record: path_in(alloc, matches, "record")?,
+        names: Names::none(alloc),
         addresses,
     })
 }

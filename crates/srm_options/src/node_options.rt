@@ -4,6 +4,7 @@ ghost use Rattle.std.specs.Prelude.{◌↔◌, IsTrue};
 ghost use Rattle.srm_options.specs.Options.{AreInRange};
 
 use crate::guard_options::GuardOptions;
+use crate::names::Names;
 use srm_entries::Config;
 use srm_names::LATEST_MOMENT;
 use std::net::SocketAddr;
@@ -32,6 +33,8 @@ pub struct NodeOptions {
     pub guard: GuardOptions,
     /// The path of the file that the member's record is written to, if it is to be. There must be no such file.
     pub record: Option<String>,
+    /// What the members are called, if a room names them.
+    pub names: Names,
     /// The members' addresses by number, one for each of 1 to 32: all IPv4, or of a live member all IPv6.
     pub addresses: Vec<SocketAddr>,
 }

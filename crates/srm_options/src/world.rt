@@ -6,6 +6,7 @@ use crate::help::{ABOUT, WORLD, WORLD_HELP};
 use crate::node::node_command;
 use crate::picture::picture_command;
 use crate::reply::Reply;
+use crate::room::room_command;
 use clap::error::ErrorKind;
 use clap::{Arg, ArgAction, Command};
 use std::alloc::{AllocError, Global};
@@ -17,8 +18,8 @@ pub struct WorldOptions {
     pub extended: bool,
 }
 
-/// Reads the arguments behind `srm`, if the first is none of `node`, `board`, `picture` and `audit`. Returns options if they ask for `srm world`. Fails with
-/// [`Reply::Help`] if they ask for help or the version, [`Reply::Wrong`] with what is wrong in them, also if one of the four stands behind an option, and
+/// Reads the arguments behind `srm`, if the first is none of `node`, `board`, `picture`, `audit` and `room`. Returns options if they ask for `srm world`. Fails with
+/// [`Reply::Help`] if they ask for help or the version, [`Reply::Wrong`] with what is wrong in them, also if one of the five stands behind an option, and
 /// [`Reply::Memory`] if out of memory.
 pub fn read_world<'a>(alloc: Global, arguments: &'a [&'a str]) -> Result<WorldOptions, Reply> {
     let mut command = srm_command(alloc)?;
@@ -30,6 +31,7 @@ pub fn read_world<'a>(alloc: Global, arguments: &'a [&'a str]) -> Result<WorldOp
         Some(("picture", _)) => Err(told(&mut command, "'picture' has to be the first word")),
         Some(("board", _)) => Err(told(&mut command, "'board' has to be the first word")),
         Some(("audit", _)) => Err(told(&mut command, "'audit' has to be the first word")),
+        Some(("room", _)) => Err(told(&mut command, "'room' has to be the first word")),
         _ => Err(told(&mut command, "'node' has to be the first word")),
     }
 }
@@ -52,7 +54,8 @@ fn srm_command<'a>(alloc: Global) -> Result<Command<'a>, AllocError> {
         .subcommand(picture_command(alloc)?)?
         .subcommand(node_command(alloc, false)?)?
         .subcommand(board_command(alloc)?)?
-        .subcommand(audit_command(alloc)?)
+        .subcommand(audit_command(alloc)?)?
+        .subcommand(room_command(alloc)?)
 }
 
 /// That one of the other commands comes first, for a caller who reads it here.
