@@ -12,6 +12,7 @@ import signal
 import socket
 import subprocess
 import sys
+import tempfile
 import time
 
 HERE = os.path.dirname(os.path.abspath(__file__))
@@ -94,13 +95,17 @@ class Session:
                       for i in range(boards, boards + nodes)]
 
     def start(self, i):
-        b = subprocess.Popen([*self.srm, 'board', '--session', '7', '--me', str(i), '--start', str(i), '--http', '127.0.0.1:%d' % self.http[i]] + self.options + self.relay.roster(i),
+        b = subprocess.Popen([*self.srm, 'board', *self.member(i), '--start', str(i), '--http', '127.0.0.1:%d' % self.http[i]] + self.options,
                              stdin=subprocess.DEVNULL, stdout=subprocess.PIPE, stderr=subprocess.PIPE)
         line = b.stderr.readline().decode()
         found = re.fullmatch(r'srm: draw at (http://127\.0\.0\.1:%d(/[0-9a-f]{32}/|/))\n' % self.http[i], line)
         assert found, line
         self.roots[i] = found.group(2)
         return b
+
+    def member(self, i):
+        """The words of a command line that say which member of the session it is."""
+        return ['--session', '7', '--me', str(i), *self.relay.roster(i)]
 
     def url(self, i):
         return 'http://127.0.0.1:%d%s' % (self.fronts[i].port if FRONT else self.http[i], self.roots[i])
@@ -139,6 +144,26 @@ class Session:
                 p.kill()
             p.wait()
         self.relay.over = True
+
+
+class RoomSession(Session):
+    """The same in a room, whose members have these names."""
+
+    NAMES = ('ada', 'grace', 'mary')
+
+    def member(self, i):
+        """Makes the room's file as member i has it, whose addresses are those of the relay."""
+        members = ''.join('[[member]]\nname = "%s"\naddress = "%s"\n' % it for it in zip(self.NAMES, self.relay.roster(i)))
+        settings = '[settings]\nwaits = [2, 2, 1, 1]\nleast-distance = 5000\nrate = 64000\ndepth = 4204\nlinger = 2000000\nmost-missing = 16777216\n'
+        self.folder = getattr(self, 'folder', None) or tempfile.mkdtemp()
+        path = os.path.join(self.folder, '%d.room' % i)
+        with open(os.open(path, os.O_WRONLY | os.O_CREAT | os.O_TRUNC, 0o600), 'w') as it:
+            it.write('ringyew = 1\nsession = 7\nkey = "%s"\n%s%s' % ('00' * 32, members, settings))
+        return ['--room', path, '--me', self.NAMES[i]]
+
+    def close(self):
+        super().close()
+        shutil.rmtree(self.folder)
 
 
 def begun(options):

@@ -14,9 +14,9 @@ function end() {
 }
 function begin(told) {
   recall(told);
-  run = told.run; me = told.me; members = told.members; quietSince = Date.now(); isLoading = true; beganAt = performance.now();
+  run = told.run; me = told.me; members = told.members; called = told.names || []; quietSince = Date.now(); isLoading = true; beganAt = performance.now();
   $("session").textContent = `session ${told.session}`;
-  document.title = `Ringyew ${told.session}: member ${me}`;
+  document.title = `Ringyew ${told.session}: ${called[me] || `member ${me}`}`;
   showTools();
 }
 function takeMessage([word, slot, ...rest]) {

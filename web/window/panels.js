@@ -90,7 +90,7 @@ function mute(member) {
   if (!muted.delete(member)) muted.add(member);
   keepStored(TAB, "muted", [...muted]);
   for (const p of pages.values()) { p.mute(member, muted.has(member)); p.run(member); }
-  say(muted.has(member) ? `Member ${member} is hidden from you alone` : `${nameOf(member)} is shown again`);
+  say(`${nameOf(member)} is ${muted.has(member) ? "hidden from you alone" : "shown again"}`);
   wake(); showPanels();
 }
 function muteButton(member) {

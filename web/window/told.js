@@ -1,5 +1,5 @@
 // What the member said.
-let run = null, me = 0, members = 0, from = 0, happened = 0, last = null, isOver = false, isLoading = true, beganAt = 0;
+let run = null, me = 0, members = 0, called = [], from = 0, happened = 0, last = null, isOver = false, isLoading = true, beganAt = 0;
 let pages = new Map(), slots = [], here = stored(TAB, "here", "0.0");
 let holes = [], reaches = [], asked = new Map(), mended = new Map(), heard = [], heardAt = [], left = new Set(), present = new Set();
 // Who is hidden here, for who looks at this tab alone.
@@ -7,7 +7,7 @@ const muted = new Set(stored(TAB, "muted", []));
 const page = () => pages.get(here);
 const keyOf = (source, name, number) => `${source} ${name} ${number}`;
 
-const ownNameOf = member => { const first = pages.get("0.0"), one = first && first.sources.get(member); return !muted.has(member) && one && one.name || `Member ${member}`; };
+const ownNameOf = member => { const first = pages.get("0.0"), one = first && first.sources.get(member); return !muted.has(member) && one && one.name || called[member] || `Member ${member}`; };
 // How a name looks: signs that show nothing, letters' cases and their forms don't count.
 const looks = new Map();
 function lookOf(name) {

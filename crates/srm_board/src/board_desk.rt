@@ -7,6 +7,7 @@ ghost use Rattle.srm_board.specs.BoardStatuses.{status_of_board};
 use crate::board_fault::BoardFault;
 use srm_live::Teller;
 use srm_names::Member;
+use srm_options::Names;
 use std::alloc::Global;
 use std::io::Write;
 use std::sync::atomic::{AtomicBool, Ordering};
@@ -17,16 +18,18 @@ use std::sync::{Mutex, Wait};
 pub struct BoardDesk<E> {
     alloc: Global,
     me: Member,
+    names: Names,
     err: Mutex<E>,
     ended: AtomicBool,
 }
 
 impl<E: Write> BoardDesk<E> {
-    /// Makes the desk of a member that did nothing yet.
-    pub fn new(alloc: Global, me: Member, err: E) -> BoardDesk<E> {
+    /// Makes the desk of a member that did nothing yet, in a session whose members have these names.
+    pub fn new(alloc: Global, me: Member, names: Names, err: E) -> BoardDesk<E> {
         BoardDesk {
             alloc,
             me,
+            names,
             err: Mutex::new(err),
             ended: AtomicBool::new(false),
         }
@@ -57,6 +60,10 @@ impl<E: Write> Teller for BoardDesk<E> {
 
     fn me(&self) -> Member {
         self.me
+    }
+
+    fn names(&self) -> &Names {
+        &self.names
     }
 
     fn alloc(&self) -> Global {

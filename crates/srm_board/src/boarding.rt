@@ -76,7 +76,8 @@ where
         http: options.http,
         has_token: options.has_token,
     };
-    let desk = BoardDesk::new(alloc, options.node.config.me(), err);
+    let names = options.node.names.copy_or_none(alloc);
+    let desk = BoardDesk::new(alloc, options.node.config.me(), names, err);
     match Arc::new(alloc, desk) {
         Ok(desk) => run_at(rt, alloc, options.node, place, input, &desk),
         Err(failed) => failed.value.print_fault(rt, &BoardFault::memory()),
@@ -145,7 +146,7 @@ where
         Ok(key) => key,
         Err(fault) => return Some(BoardFault::Member(MemberFault::from(fault))),
     };
-    match prepare(rt, alloc, place, options.config) {
+    match prepare(rt, alloc, place, &options.names, options.config) {
         Ok(prepared) => run_keyed(rt, alloc, options, key, prepared, input, desk),
         Err(error) => Some(BoardFault::of_serve(place.http, error)),
     }

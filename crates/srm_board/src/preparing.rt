@@ -10,6 +10,7 @@ use crate::slate_sink::{SlateSink, slate_sinks};
 use crate::turning::Turning;
 use srm_agent::Config;
 use srm_live::{Need, Tally};
+use srm_options::Names;
 use srm_slate::{Face, Slate, TokenSource};
 use std::alloc::{AllocError, Global};
 use std::io;
@@ -43,7 +44,13 @@ pub struct Shared {
 
 /// Binds the board's address, and makes what its threads share. Fails with the system's error if it refuses to bind, or has no randomness for a token, and with
 /// `OutOfMemory`.
-pub fn prepare<R>(rt: &R, alloc: Global, place: Place, config: Config) -> io::Result<Prepared<R>>
+pub fn prepare<R>(
+    rt: &R,
+    alloc: Global,
+    place: Place,
+    names: &Names,
+    config: Config,
+) -> io::Result<Prepared<R>>
 where
     R: Net<Listener = TcpListener, Stream = TcpStream> + RandomSource + Wait + Copy + Drop,
     ensures { IfOk result (λ p. vec_len p.sinks ≡ PAGES) }
@@ -53,7 +60,7 @@ where
     listener.set_nonblocking(true)?;
     // Where port 0 was asked for, the system chose one.
     let http = listener.local_addr()?;
-    let (face, address) = face_of(rt, alloc, Place { http, ..place }, config)?;
+    let (face, address) = face_of(rt, alloc, Place { http, ..place }, names, config)?;
     let endpoint = Endpoint {
         listener,
         face,
@@ -82,6 +89,7 @@ fn face_of<S: TokenSource>(
     source: &S,
     alloc: Global,
     place: Place,
+    names: &Names,
     config: Config,
 ) -> io::Result<(Face, String)>
     ensures root { place.has_token ≡ true → IfOk result (λ r. IsTokenRoot (S.gives source.now) r.0.guard.root) }
@@ -95,6 +103,7 @@ fn face_of<S: TokenSource>(
         me: config.me().number(),
         members: config.members(),
         session: config.session(),
+        names: names.texts(alloc)?,
         guard,
     };
     Ok((face, address))

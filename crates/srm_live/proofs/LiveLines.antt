@@ -16,8 +16,8 @@ pub prints_all : PrintsAllLaw
 prints_all slot stopped [] old new (go, same) whole = ap (λ (v : PrintingView). v.lines) same ∙ sym (append-nil old.lines)
 prints_all slot stopped (m ∷ ms) old new (between, true, (go, inl printed), later) whole =
     prints_all slot stopped ms between new later whole
-    ∙ ap (λ (v : PrintingView). v.lines ++ map (live_line v.me slot) ms) printed
-    ∙ append_assoc old.lines (live_line old.me slot m ∷ []) (map (live_line old.me slot) ms)
+    ∙ ap (λ (v : PrintingView). v.lines ++ map (live_line v.names v.me slot) ms) printed
+    ∙ append_assoc old.lines (live_line old.names old.me slot m ∷ []) (map (live_line old.names old.me slot) ms)
 prints_all slot stopped (m ∷ ms) old new (between, true, (go, inr lacked), later) whole =
     let lacks = lacks_on slot stopped ms between new later (ap (λ (v : PrintingView). v.lacks) lacked) in cc
 prints_all slot stopped (m ∷ ms) old new (between, false, (go, printed), later) whole = cc

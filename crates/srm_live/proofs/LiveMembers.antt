@@ -98,5 +98,5 @@ lives_with contents remaining options known sinks key seal node taps pens opened
       (stored_if contents opened lives.file options.seed node.journal.start begins lives.whole.host.last.journal.entries lives.took began lives.recorded);
 }
 
-pub lives_whole : {F : Type 0} (contents remaining : F → Option (List ℕ)) (options : NodeOptions) (known : Option (List ℕ)) (sinks : List PrintingView) → length sinks ≡ PAGES → All (λ (s : PrintingView). s ≡ new_printing options.config.me) sinks → LivesWith contents remaining options known sinks → LivesWhole contents remaining options known
+pub lives_whole : {F : Type 0} (contents remaining : F → Option (List ℕ)) (options : NodeOptions) (known : Option (List ℕ)) (sinks : List PrintingView) → length sinks ≡ PAGES → All (λ (s : PrintingView). s ≡ new_printing options.names options.config.me) sinks → LivesWith contents remaining options known sinks → LivesWhole contents remaining options known
 lives_whole contents remaining options known sinks count new with_these = record { sinks = sinks; count = count; new = new; with_these = with_these }

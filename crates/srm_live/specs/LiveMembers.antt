@@ -56,5 +56,5 @@ pub record LivesWith {F : Type 0} (contents remaining : F → Option (List ℕ))
 pub record LivesWhole {F : Type 0} (contents remaining : F → Option (List ℕ)) (options : NodeOptions) (known : Option (List ℕ)) : Type 0 where
   pub sinks : List PrintingView
   pub count : length sinks ≡ PAGES
-  pub new : All (λ (s : PrintingView). s ≡ new_printing options.config.me) sinks
+  pub new : All (λ (s : PrintingView). s ≡ new_printing options.names options.config.me) sinks
   pub with_these : LivesWith contents remaining options known sinks

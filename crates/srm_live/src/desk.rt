@@ -13,6 +13,7 @@ use crate::title::Title;
 use srm_agent::Config;
 use srm_member::MemberFault;
 use srm_names::Member;
+use srm_options::{Called, Names};
 use srm_script::{PrintedGone, ScriptFault};
 use std::alloc::{AllocError, Global};
 use std::io;
@@ -39,6 +40,7 @@ impl Model for Passed {
 #[derive(Drop)]
 pub struct Desk<O, E> {
     alloc: Global,
+    names: Names,
     config: Config,
     tally: Option<Arc<Tally, Global>>,
     out: Mutex<O>,
@@ -52,14 +54,16 @@ pub struct Desk<O, E> {
 }
 
 impl<O: Write, E: Write> Desk<O, E> {
-    /// Makes the desk of a member with these settings that did nothing yet. If out of memory for the counts, nothing is counted.
-    pub fn new(alloc: Global, config: Config, out: O, err: E) -> Desk<O, E>
+    /// Makes the desk of a member with these settings that did nothing yet. If out of memory for the counts, nothing is counted, and if out of memory for the names, members are told by
+    /// number.
+    pub fn new(alloc: Global, names: &Names, config: Config, out: O, err: E) -> Desk<O, E>
     where
         E: IsTerminal,
     {
         let has_terminal = err.is_terminal();
         Desk {
             alloc,
+            names: names.copy_or_none(alloc),
             config,
             tally: make_tally(alloc),
             out: Mutex::new(out),
@@ -74,7 +78,7 @@ impl<O: Write, E: Write> Desk<O, E> {
 
     /// Prints that the member is gone, unless an earlier line couldn't be printed.
     pub fn print_gone<R: Wait>(&self, rt: &R) {
-        match format!(in self.alloc; "{}\n", PrintedGone(self.config.me())) {
+        match format!(in self.alloc; "gone {}\n", self.called(self.config.me())) {
             Ok(line) => {
                 self.print_line(rt, line);
             }
@@ -145,6 +149,11 @@ impl<O: Write, E: Write> Desk<O, E> {
         self.config
     }
 
+    /// Returns what displays a member: as its name, or its number.
+    pub fn called(&self, member: Member) -> Called<'_> {
+        self.names.called(member)
+    }
+
     /// Returns how many other members the session has.
     pub fn others(&self) -> u8 {
         self.config.members().saturating_sub(1)
@@ -205,6 +214,10 @@ impl<O: Write, E: Write> Teller for Desk<O, E> {
 
     fn me(&self) -> Member {
         self.config.me()
+    }
+
+    fn names(&self) -> &Names {
+        &self.names
     }
 
     fn alloc(&self) -> Global {

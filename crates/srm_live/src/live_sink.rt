@@ -8,6 +8,7 @@ use crate::desk::{Desk, Passed};
 use crate::live_line::live_line;
 use srm_names::{Member, PAGES, PageMsg};
 use srm_node::PageSink;
+use srm_options::Names;
 use srm_script::ScriptFault;
 use srm_world::{Forgotten, Past};
 use std::alloc::{AllocError, Global};
@@ -17,12 +18,13 @@ use std::sync::{Arc, Wait};
 
 /// Prints each message as it is taken. A message that can't be printed stops no worker, since the others of the session go on.
 ///
-/// Contracts see the member, the lines that were passed to the desk, in order, and whether memory ran out for one.
+/// Contracts see what members are called, the member, the lines that were passed to the desk, in order, and whether memory ran out for one.
 #[derive(Drop)]
 pub struct Printing<R: Wait + Drop, O: Drop, E: Drop> {
     rt: R,
     alloc: Global,
     desk: Arc<Desk<O, E>, Global>,
+    names: Names,
     me: Member,
     // For contracts alone.
     printed: Forgotten<Passed>,
@@ -34,7 +36,7 @@ impl<R: Wait + Drop, O: Drop, E: Drop> Model for Printing<R, O, E> {
 
     ghost Value = { PrintingView };
 
-    ghost view = { λ p. record { me = p.me; lines = p.printed; lacks = p.lacks_memory } };
+    ghost view = { λ p. record { names = p.names; me = p.me; lines = p.printed; lacks = p.lacks_memory } };
 }
 
 impl<R: Wait + Drop, O: Write + Drop, E: Write + Drop> PageSink for Printing<R, O, E> {
@@ -53,7 +55,7 @@ impl<R: Wait + Drop, O: Write + Drop, E: Write + Drop> Printing<R, O, E> {
     fn show(&mut self, slot: u8, message: &PageMsg)
         ensures { PrintsOrLacks self.old slot message.now self.new }
     {
-        match live_line(self.alloc, self.me, slot, message) {
+        match live_line(self.alloc, &self.names, self.me, slot, message) {
             Ok(line) => self.print(line),
             Err(_) => self.lack_memory(),
         }
@@ -80,11 +82,12 @@ impl<R: Wait + Drop, O: Write + Drop, E: Write + Drop> Printing<R, O, E> {
 pub fn printing_sinks<R: Wait + Copy + Drop, O: Write + Drop, E: Write + Drop>(
     rt: &R,
     alloc: Global,
+    names: &Names,
     me: Member,
     desk: &Arc<Desk<O, E>, Global>,
 ) -> Result<Vec<Printing<R, O, E>>, AllocError>
     ensures count { IfOk result (λ sinks. vec_len sinks ≡ PAGES) }
-    ensures new { IfOk result (λ sinks. All (λ s. s ≡ new_printing me) sinks.items) }
+    ensures new { IfOk result (λ sinks. All (λ s. s ≡ new_printing names.now me) sinks.items) }
 {
     let mut sinks = Vec::new(alloc);
     for _ in 0..PAGES {
@@ -92,6 +95,7 @@ pub fn printing_sinks<R: Wait + Copy + Drop, O: Write + Drop, E: Write + Drop>(
             rt: *rt,
             alloc,
             desk: Arc::try_clone(desk)?,
+            names: names.copy(alloc)?,
             me,
             printed: Forgotten::new(),
             lacks_memory: false,

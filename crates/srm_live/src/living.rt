@@ -77,7 +77,10 @@ where
     ensures whole { IsWholeStatus result → LivesWhole R.File.contents R.File.remaining options (I.remaining reader) }
 {
     let alloc = rt.alloc();
-    match Arc::new(alloc, Desk::new(alloc, options.config, out, err)) {
+    match Arc::new(
+        alloc,
+        Desk::new(alloc, &options.names, options.config, out, err),
+    ) {
         Ok(desk) => run_at(rt, alloc, options, reader, &desk),
         Err(failed) => print(rt, &failed.value, &out_of_memory()),
     }
@@ -101,7 +104,7 @@ where
     ensures greatest { result ≤ WAS_BEFORE }
     ensures whole { IsWholeStatus result → LivesWhole R.File.contents R.File.remaining options (I.remaining reader) }
 {
-    let Ok(sinks) = printing_sinks(rt, alloc, options.config.me(), desk) else {
+    let Ok(sinks) = printing_sinks(rt, alloc, &options.names, options.config.me(), desk) else {
         return print(rt, desk, &out_of_memory());
     };
     match run_printing(rt, alloc, options, reader, sinks, desk) {

@@ -49,12 +49,8 @@ pub fn tell_news<R: Wait, T: Teller>(rt: &R, tally: &Tally, told: Told, teller: 
         }
     }
     if now.was_before && !told.was_before {
-        tell(
-            rt,
-            teller,
-            teller.me(),
-            "was in this session before: use another number or another session",
-        );
+        let has_names = !teller.names().is_empty();
+        tell(rt, teller, teller.me(), was_before(has_names));
     }
     tell_first_dropped(rt, teller, told.dropped, now.dropped);
     now
@@ -95,9 +91,18 @@ fn tell_first_dropped<R: Wait, T: Teller>(rt: &R, teller: &T, told: Dropped, now
     }
 }
 
+// Returns what to tell a member that was in the session before.
+fn was_before(has_names: bool) -> &'static str {
+    if has_names {
+        "was in this session before: join by another name, or make a new room"
+    } else {
+        "was in this session before: use another number or another session"
+    }
+}
+
 fn tell<R: Wait, T: Teller>(rt: &R, teller: &T, member: Member, news: &str) {
-    let number = member.number();
-    if let Ok(line) = format!(in teller.alloc(); "srm: member {number} {news}\n") {
+    let member = teller.names().titled(member);
+    if let Ok(line) = format!(in teller.alloc(); "srm: {member} {news}\n") {
         teller.tell(rt, line.as_str());
     }
 }

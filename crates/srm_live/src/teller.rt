@@ -3,6 +3,7 @@
 use crate::tally::Tally;
 use srm_member::{Keeping, noted_cause};
 use srm_names::Member;
+use srm_options::Names;
 use std::alloc::Global;
 use std::sync::Wait;
 use std::sync::atomic::AtomicBool;
@@ -20,6 +21,9 @@ pub trait Teller {
 
     /// Returns the member that it tells of.
     fn me(&self) -> Member;
+
+    /// Returns what the members of the session are called.
+    fn names(&self) -> &Names;
 
     /// Returns the allocator for lines.
     fn alloc(&self) -> Global;

@@ -8,7 +8,7 @@ use crate::tally::Tally;
 use crate::teller::Teller;
 use srm_agent::Config;
 use srm_names::{MEMBERS, Member};
-use std::fmt;
+use std::alloc::AllocError;
 use std::io::Write;
 use std::sync::Wait;
 
@@ -19,7 +19,7 @@ pub fn tell_unfinished<R: Wait, O: Write, E: Write>(rt: &R, tally: &Tally, desk:
         config: desk.config(),
     };
     if staying.has_any() {
-        if let Ok(line) = format!(in desk.alloc(); "srm: not heard leaving: {staying}\n") {
+        if let Ok(line) = staying.line(desk) {
             desk.tell(rt, line.as_str());
         }
     }
@@ -51,15 +51,15 @@ fn tell_hole<R: Wait, O: Write, E: Write>(
     count: usize,
     desk: &Desk<O, E>,
 ) {
-    let number = member.number();
+    let titled = desk.names().titled(member);
     if let Ok(line) = format!(in desk.alloc();
-        "srm: missing {count} of member {number} on page {page}\n"
+        "srm: missing {count} of {titled} on page {page}\n"
     ) {
         desk.tell(rt, line.as_str());
     }
 }
 
-// The others that weren't heard leaving. Its text has their numbers, with commas between.
+// The others that weren't heard leaving.
 #[derive(Clone, Copy)]
 struct Staying {
     presence: Presence,
@@ -83,19 +83,21 @@ impl Staying {
         }
         false
     }
-}
 
-impl fmt::Display for Staying {
-    fn fmt<W: fmt::Write>(&self, f: &mut fmt::Formatter<W>) -> fmt::Result {
+    // Returns the line that names them, with commas between.
+    fn line<O: Write, E: Write>(&self, desk: &Desk<O, E>) -> Result<String, AllocError> {
+        let mut line = String::from_str(desk.alloc(), "srm: not heard leaving: ")?;
         let mut before = "";
         for number in 0..MEMBERS {
             if let Some(member) = Member::new(number) {
                 if self.has(member) {
-                    write!(f, "{before}{number}")?;
+                    let one = format!(in desk.alloc(); "{before}{}", desk.called(member))?;
+                    line.push_str(one.as_str())?;
                     before = ", ";
                 }
             }
         }
-        Ok(())
+        line.push_str("\n")?;
+        Ok(line)
     }
 }

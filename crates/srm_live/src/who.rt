@@ -34,12 +34,10 @@ fn tell_member<R: Wait, O: Write, E: Write>(
     tally: &Tally,
     desk: &Desk<O, E>,
 ) {
-    let number = member.number();
+    let titled = desk.names().titled(member);
     let standing = ShownStanding(tally.presence().standing(member));
     let missing = tally.holes().of_member(member);
-    if let Ok(line) = format!(in desk.alloc();
-        "srm: member {number} {standing}, missing {missing}\n"
-    ) {
+    if let Ok(line) = format!(in desk.alloc(); "srm: {titled} {standing}, missing {missing}\n") {
         desk.tell(rt, line.as_str());
     }
 }

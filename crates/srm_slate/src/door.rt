@@ -38,6 +38,8 @@ pub struct Face {
     pub members: u8,
     /// The number of the session.
     pub session: u32,
+    /// What the members are called, by their numbers; none if no room names them.
+    pub names: Vec<String>,
     /// Whom the server answers.
     pub guard: Guard,
 }

@@ -8,7 +8,7 @@ use std::alloc::AllocError;
 
 /// What the page may do: run what it brings along, and ask this server. Nothing else of the network is loaded, and no other page may frame it.
 pub const POLICY: &str =
-    "default-src 'none'; script-src 'sha256-OM+5ErXH+EKEK06zoye8aR77DOPFrmRP5LePYlNY+EY='; style-src 'sha256-9sHKMZsOPnXi1AK+WOWPLKz8U20IZv3eLszPMndEAE0='; img-src data: blob:; connect-src 'self'; base-uri 'none'; form-action 'none'; frame-ancestors 'none'";
+    "default-src 'none'; script-src 'sha256-rCtU2RK9bH3grHZZW1FR+5mqu21K0OBOa5K4O4blkf4='; style-src 'sha256-9sHKMZsOPnXi1AK+WOWPLKz8U20IZv3eLszPMndEAE0='; img-src data: blob:; connect-src 'self'; base-uri 'none'; form-action 'none'; frame-ancestors 'none'";
 
 /// Appends the page, a text that a browser shows. If out of memory, some of the body may be gone.
 pub fn put_page(body: &mut Rope) -> Result<(), AllocError>
@@ -1113,7 +1113,7 @@ function newStep() { keepStored(TAB, "steps", ++steps); return tab + (steps % 16
 
 
 // What the member said.
-let run = null, me = 0, members = 0, from = 0, happened = 0, last = null, isOver = false, isLoading = true, beganAt = 0;
+let run = null, me = 0, members = 0, called = [], from = 0, happened = 0, last = null, isOver = false, isLoading = true, beganAt = 0;
 let pages = new Map(), slots = [], here = stored(TAB, "here", "0.0");
 let holes = [], reaches = [], asked = new Map(), mended = new Map(), heard = [], heardAt = [], left = new Set(), present = new Set();
 // Who is hidden here, for who looks at this tab alone.
@@ -1121,7 +1121,7 @@ const muted = new Set(stored(TAB, "muted", []));
 const page = () => pages.get(here);
 const keyOf = (source, name, number) => `${source} ${name} ${number}`;
 
-const ownNameOf = member => { const first = pages.get("0.0"), one = first && first.sources.get(member); return !muted.has(member) && one && one.name || `Member ${member}`; };
+const ownNameOf = member => { const first = pages.get("0.0"), one = first && first.sources.get(member); return !muted.has(member) && one && one.name || called[member] || `Member ${member}`; };
 // How a name looks: signs that show nothing, letters' cases and their forms don't count.
 const looks = new Map();
 function lookOf(name) {
@@ -1628,7 +1628,7 @@ function mute(member) {
   if (!muted.delete(member)) muted.add(member);
   keepStored(TAB, "muted", [...muted]);
   for (const p of pages.values()) { p.mute(member, muted.has(member)); p.run(member); }
-  say(muted.has(member) ? `Member ${member} is hidden from you alone` : `${nameOf(member)} is shown again`);
+  say(`${nameOf(member)} is ${muted.has(member) ? "hidden from you alone" : "shown again"}`);
   wake(); showPanels();
 }
 function muteButton(member) {
@@ -1843,9 +1843,9 @@ function end() {
 }
 function begin(told) {
   recall(told);
-  run = told.run; me = told.me; members = told.members; quietSince = Date.now(); isLoading = true; beganAt = performance.now();
+  run = told.run; me = told.me; members = told.members; called = told.names || []; quietSince = Date.now(); isLoading = true; beganAt = performance.now();
   $("session").textContent = `session ${told.session}`;
-  document.title = `Ringyew ${told.session}: member ${me}`;
+  document.title = `Ringyew ${told.session}: ${called[me] || `member ${me}`}`;
   showTools();
 }
 function takeMessage([word, slot, ...rest]) {
@@ -1872,10 +1872,10 @@ function giveWay(name) {
   if (here === name) { here = p.name; keepStored(TAB, "here", here); if (shaping) shaping.page = here; if (writing) writing.page = here; }
 }
 function takeHappening([word, ...what]) {
-  if (word === "refused") { takeRefusal(...what); return; }
-  const key = keyOf(what[0], what[1], what[2]), name = `${what[2]} of ${nameOf(what[0])}`;"##;
+  if (word === "refused") { takeRefusal(...what); return; }"##;
 
 const PART_4: &str = r##"
+  const key = keyOf(what[0], what[1], what[2]), name = `${what[2]} of ${nameOf(what[0])}`;
   if (word === "miss") news("missing ", name);
   else if (word === "ask") { asked.set(key, (asked.get(key) || 0) + 1); forgetOld(asked); news("asked for ", name); }
   else if (word === "gain") { mended.set(key, what[3]); forgetOld(mended); news("got ", name, ` from ${nameOf(what[3])}`); }
@@ -2546,10 +2546,10 @@ const CHORDS = {
   z: e => e.shiftKey ? redo() : undo(), y: () => redo(), s: () => saveFile(), o: () => $("file").click(),
   a: () => { setTool("choose"); choose(page() ? page().shapes() : []); paper.focus(); }, c: () => copyChosen(), x: () => { if (copyChosen()) erase(alive()); }, v: () => paste(clip, [60, 60]), d: () => double() };
 function thicker(step) { const all = Object.keys(WIDTHS).map(Number).sort((a, b) => a - b); setWidth(all[Math.max(0, Math.min(all.length - 1, all.indexOf(width) + step))]); }
-// What a key stands for in a table. Letters count by their place on the keyboard, whatever Caps Lock or the layout make of them, and where that place has no meaning by
-// what they write; signs by what they write, and else by their place. Redo by Y counts by what it writes, since layouts exchange it with Z."##;
+// What a key stands for in a table. Letters count by their place on the keyboard, whatever Caps Lock or the layout make of them, and where that place has no meaning by"##;
 
 const PART_5: &str = r##"
+// what they write; signs by what they write, and else by their place. Redo by Y counts by what it writes, since layouts exchange it with Z.
 const SIGNS = { BracketLeft: "[", BracketRight: "]", Equal: "=", Minus: "-", Comma: ",", Period: ".", Slash: "?" };
 function meaningOf(e, table) {
   const place = /^Key[A-Z]$/.test(e.code) ? e.code[3].toLowerCase() : null, digit = /^(?:Digit|Numpad)(\d)$/.exec(e.code), written = e.key.length === 1 ? e.key.toLowerCase() : e.key;

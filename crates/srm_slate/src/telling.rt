@@ -26,6 +26,7 @@ impl fmt::Display for Told<'_> {
         write!(f, "{{\"me\":{},", self.face.me)?;
         write!(f, "\"members\":{},", self.face.members)?;
         write!(f, "\"session\":{},", self.face.session)?;
+        write_names(f, self.face.names.as_slice())?;
         write!(f, "\"run\":\"{:x}\",", self.run)?;
         write_standing(f, self.look)?;
         write_counts(f, self.look.counts)?;
@@ -49,6 +50,27 @@ fn write_standing<W: fmt::Write>(f: &mut fmt::Formatter<W>, look: &Look) -> fmt:
 // A comma before all but the first.
 fn write_gap<W: fmt::Write>(f: &mut fmt::Formatter<W>, place: usize) -> fmt::Result {
     if place > 0 { f.write_char(',') } else { Ok(()) }
+}
+
+// What members are called, in JSON. A name has no control character.
+fn write_names<W: fmt::Write>(f: &mut fmt::Formatter<W>, names: &[String]) -> fmt::Result {
+    f.write_str("\"names\":[")?;
+    for (place, name) in names.iter().enumerate() {
+        write_gap(f, place)?;
+        write_text(f, name.as_str())?;
+    }
+    f.write_str("],")
+}
+
+fn write_text<W: fmt::Write>(f: &mut fmt::Formatter<W>, text: &str) -> fmt::Result {
+    f.write_char('"')?;
+    for character in text.chars() {
+        if character == '"' || character == '\\' {
+            f.write_char('\\')?;
+        }
+        f.write_char(character)?;
+    }
+    f.write_char('"')
 }
 
 fn write_counts<W: fmt::Write>(f: &mut fmt::Formatter<W>, counts: Counts) -> fmt::Result {

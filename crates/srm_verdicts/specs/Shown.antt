@@ -18,26 +18,26 @@ use Rattle.srm_verdicts.specs.Details.{path_at}
 use Rattle.srm_verdicts.specs.VerdictTexts.{verdict_text}
 
 -- A verdict is shown in words, but an honest run as a script or a picture where one is asked for.
-abbrev pub IsShown : AuditOutput → List (List ℕ) → List Record → Verdict → List ℕ → Type 0
-IsShown Script paths rs (Honest t) text = Unit {0}
-IsShown Picture paths rs (Honest t) text = Unit {0}
-IsShown output paths rs v text = text ≡ verdict_text paths rs v
+abbrev pub IsShown : AuditOutput → List (List ℕ) → List (List ℕ) → List Record → Verdict → List ℕ → Type 0
+IsShown Script names paths rs (Honest t) text = Unit {0}
+IsShown Picture names paths rs (Honest t) text = Unit {0}
+IsShown output names paths rs v text = text ≡ verdict_text names paths rs v
 
 -- the text of a verdict on the records was printed, and the status is its own
-pub record IsPrinted (output : AuditOutput) (paths : List (List ℕ)) (rs : List Record) (status : ℕ) (old new : Option (List ℕ)) : Type 0 where
+pub record IsPrinted (output : AuditOutput) (names paths : List (List ℕ)) (rs : List Record) (status : ℕ) (old new : Option (List ℕ)) : Type 0 where
   pub verdict : Verdict
   pub text : List ℕ
   pub judged : IsVerdict rs verdict
   pub its_status : status ≡ status_of verdict
-  pub shown : IsShown output paths rs verdict text
+  pub shown : IsShown output names paths rs verdict text
   pub printed : Appends old new text
 
 -- a front of such a text was printed
-pub record IsCutShort (output : AuditOutput) (paths : List (List ℕ)) (rs : List Record) (old new : Option (List ℕ)) : Type 0 where
+pub record IsCutShort (output : AuditOutput) (names paths : List (List ℕ)) (rs : List Record) (old new : Option (List ℕ)) : Type 0 where
   pub verdict : Verdict
   pub text : List ℕ
   pub judged : IsVerdict rs verdict
-  pub shown : IsShown output paths rs verdict text
+  pub shown : IsShown output names paths rs verdict text
   pub printed : AppendsFront old new text
 
 -- A fault for which there is no text of a verdict: memory ran out, or an honest run is no script or picture as one is asked for.
@@ -58,8 +58,8 @@ abbrev pub IsUnprinted : AuditOutput → List (List ℕ) → List Record → Aud
 IsUnprinted output paths rs fault = ((unjudged : Unjudged) × IsUnjudged rs unjudged × IsFaultOf paths unjudged fault) ⊎ ((v : Verdict) × IsVerdict rs v × IsUnshown output v fault)
 
 -- What is printed where a fault came of these records: nothing where there is no text, and else a front of one.
-abbrev pub Leaves : AuditOutput → List (List ℕ) → List Record → AuditFault → Option (List ℕ) → Option (List ℕ) → Type 0
-Leaves output paths rs fault old new = (IsUnprinted output paths rs fault × Keeps old new) ⊎ (((fault ≡ faults.Memory) ⊎ (fault ≡ faults.Output)) × IsCutShort output paths rs old new)
+abbrev pub Leaves : AuditOutput → List (List ℕ) → List (List ℕ) → List Record → AuditFault → Option (List ℕ) → Option (List ℕ) → Type 0
+Leaves output names paths rs fault old new = (IsUnprinted output paths rs fault × Keeps old new) ⊎ (((fault ≡ faults.Memory) ⊎ (fault ≡ faults.Output)) × IsCutShort output names paths rs old new)
 
 -- ---- of files
 
@@ -83,16 +83,16 @@ IsUnread faults.Output = ⊥
 IsUnread fault = Unit {0}
 
 -- The text of a verdict on the records was printed, and the status is its own.
-abbrev pub IsPrintedOfFiles : AuditOutput → List (List ℕ) → ℕ → Option (List ℕ) → Option (List ℕ) → Type 0
-IsPrintedOfFiles output paths status old new = (rs : List Record) × AreRead paths rs × IsPrinted output paths rs status old new
+abbrev pub IsPrintedOfFiles : AuditOutput → List (List ℕ) → List (List ℕ) → ℕ → Option (List ℕ) → Option (List ℕ) → Type 0
+IsPrintedOfFiles output names paths status old new = (rs : List Record) × AreRead paths rs × IsPrinted output names paths rs status old new
 
 -- What is printed where a fault came: nothing where the records weren't read.
-abbrev pub LeavesOfFiles : AuditOutput → List (List ℕ) → AuditFault → Option (List ℕ) → Option (List ℕ) → Type 0
-LeavesOfFiles output paths fault old new = (IsUnread fault × Keeps old new) ⊎ ((rs : List Record) × AreRead paths rs × Leaves output paths rs fault old new)
+abbrev pub LeavesOfFiles : AuditOutput → List (List ℕ) → List (List ℕ) → AuditFault → Option (List ℕ) → Option (List ℕ) → Type 0
+LeavesOfFiles output names paths fault old new = (IsUnread fault × Keeps old new) ⊎ ((rs : List Record) × AreRead paths rs × Leaves output names paths rs fault old new)
 
 -- What the program prints, and its status: that of the verdict that it printed, or of a fault.
-abbrev pub IsAudited : AuditOutput → List (List ℕ) → ℕ → Option (List ℕ) → Option (List ℕ) → Type 0
-IsAudited output paths status old new = IsPrintedOfFiles output paths status old new ⊎ ((fault : AuditFault) × (status ≡ status_of_fault fault) × LeavesOfFiles output paths fault old new)
+abbrev pub IsAudited : AuditOutput → List (List ℕ) → List (List ℕ) → ℕ → Option (List ℕ) → Option (List ℕ) → Type 0
+IsAudited output names paths status old new = IsPrintedOfFiles output names paths status old new ⊎ ((fault : AuditFault) × (status ≡ status_of_fault fault) × LeavesOfFiles output names paths fault old new)
 
 -- a status of a verdict
 abbrev pub IsOfVerdict : ℕ → Type 0

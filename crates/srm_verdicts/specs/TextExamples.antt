@@ -30,21 +30,25 @@ counts : map (λ n. counted n (codes "call")) (0 ∷ 1 ∷ 20 ∷ []) ≡ codes 
 unfolding digits
 counts = refl
 
-undecided : verdict_text [] [] Undecided ≡ codes "undecided: session 0, 0 of 0 records, 0 of them cut\n"
+undecided : verdict_text [] [] [] Undecided ≡ codes "undecided: session 0, 0 of 0 records, 0 of them cut\n"
 unfolding digits
 undecided = refl
 
-untold : verdict_text (codes "a" ∷ codes "b" ∷ []) [] (NotHonest (Untold 1 20)) ≡ codes "not honest: b isn't the record of any run of its member\nframe 20 of b is the first that differs when its calls are made again\n"
+untold : verdict_text [] (codes "a" ∷ codes "b" ∷ []) [] (NotHonest (Untold 1 20)) ≡ codes "not honest: b isn't the record of any run of its member\nframe 20 of b is the first that differs when its calls are made again\n"
 unfolding digits
 untold = refl
 
-roster : verdict_text [] [] (NotHonest Roster) ≡ codes "not honest: the records aren't of different members of one session\n"
+roster : verdict_text [] [] [] (NotHonest Roster) ≡ codes "not honest: the records aren't of different members of one session\n"
 roster = refl
 
-foreign : verdict_text [] [] (NotHonest (Foreign 3 7)) ≡ codes "not honest: the worker of page slot 7 of member 3 took what it wasn't given\n"
+foreign : verdict_text [] [] [] (NotHonest (Foreign 3 7)) ≡ codes "not honest: the worker of page slot 7 of member 3 took what it wasn't given\n"
 unfolding digits
 foreign = refl
 
-unsent : verdict_text [] [] (NotHonest (Unsent 31 12)) ≡ codes "not honest: call 12 of member 31 hears a datagram that nobody can have sent before\n"
+in_a_room : verdict_text (codes "ada" ∷ codes "grace" ∷ []) [] [] (NotHonest (Unsent 1 12)) ≡ codes "not honest: call 12 of grace hears a datagram that nobody can have sent before\n"
+unfolding digits
+in_a_room = refl
+
+unsent : verdict_text [] [] [] (NotHonest (Unsent 31 12)) ≡ codes "not honest: call 12 of member 31 hears a datagram that nobody can have sent before\n"
 unfolding digits
 unsent = refl

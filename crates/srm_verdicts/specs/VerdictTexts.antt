@@ -2,6 +2,7 @@
 use Rattle.std.specs.Prelude.{ℕ, ◌+◌, ◌-◌, ◌^◌, ◌==◌, nat_lt, min, if◌then◌else◌, List, [], ◌∷◌, ◌++◌, length, map, sum_by, filter, find, zip, flat_map, codes, Bool, true, false, Option, Some, None}
 use Rattle.std.specs.Fmt.{decimal}
 use denote.Ref.{Bor}
+use Rattle.srm_options.specs.MemberNames.{titled}
 use Rattle.srm_frames.specs.declared.line.Call.{Call}
 use Rattle.srm_frames.specs.declared.line.Call.TheVariants.{Gave}
 use Rattle.srm_frames.specs.declared.line.Line.{Line}
@@ -81,30 +82,30 @@ counted count word = decimal count ++ (codes " " ++ (word ++ plural count))
 abbrev pub honest_line : List Record → List ℕ
 honest_line rs = codes "honest: session " ++ (decimal (session_of rs) ++ (codes ", " ++ (counted (members_of rs) (codes "member") ++ (codes ", " ++ (counted (calls_in_all rs) (codes "call") ++ codes "\n")))))
 
-abbrev pub reason_line : List (List ℕ) → List Record → Reason → List ℕ
-reason_line paths rs (Untold place line) = codes "not honest: " ++ (path_at paths place ++ codes " isn't the record of any run of its member\n")
-reason_line paths rs Roster = codes "not honest: the records aren't of different members of one session\n"
-reason_line paths rs (Foreign member slot) = codes "not honest: the worker of page slot " ++ (decimal slot ++ (codes " of member " ++ (decimal member ++ codes " took what it wasn't given\n")))
-reason_line paths rs (Unsent member entry) = codes "not honest: call " ++ (decimal (call_of_entry rs member entry) ++ (codes " of member " ++ (decimal member ++ codes " hears a datagram that nobody can have sent before\n")))
+abbrev pub reason_line : List (List ℕ) → List (List ℕ) → List Record → Reason → List ℕ
+reason_line names paths rs (Untold place line) = codes "not honest: " ++ (path_at paths place ++ codes " isn't the record of any run of its member\n")
+reason_line names paths rs Roster = codes "not honest: the records aren't of different members of one session\n"
+reason_line names paths rs (Foreign member slot) = codes "not honest: the worker of page slot " ++ (decimal slot ++ (codes " of " ++ (titled names member ++ codes " took what it wasn't given\n")))
+reason_line names paths rs (Unsent member entry) = codes "not honest: call " ++ (decimal (call_of_entry rs member entry) ++ (codes " of " ++ (titled names member ++ codes " hears a datagram that nobody can have sent before\n")))
 
 abbrev pub undecided_line : List Record → List ℕ
 undecided_line rs = codes "undecided: session " ++ (decimal (session_of rs) ++ (codes ", " ++ (decimal (length rs) ++ (codes " of " ++ (counted (members_of rs) (codes "record") ++ (codes ", " ++ (decimal (cuts_in rs) ++ codes " of them cut\n")))))))
 
-abbrev pub verdict_line : List (List ℕ) → List Record → Verdict → List ℕ
-verdict_line paths rs (Honest t) = honest_line rs
-verdict_line paths rs (NotHonest reason) = reason_line paths rs reason ++ detail paths rs reason
-verdict_line paths rs Undecided = undecided_line rs
+abbrev pub verdict_line : List (List ℕ) → List (List ℕ) → List Record → Verdict → List ℕ
+verdict_line names paths rs (Honest t) = honest_line rs
+verdict_line names paths rs (NotHonest reason) = reason_line names paths rs reason ++ detail paths rs reason
+verdict_line names paths rs Undecided = undecided_line rs
 
 abbrev pub cut_text : Bool → List ℕ
 cut_text false = []
 cut_text true = codes ", cut"
 
-abbrev pub record_line : List ℕ → Record → List ℕ
-record_line path r = codes "member " ++ (decimal r.beginning.config.me ++ (codes ": " ++ (path ++ (codes ", " ++ (counted (calls_in r) (codes "call") ++ (cut_text (is_cut r.end) ++ codes "\n"))))))
+abbrev pub record_line : List (List ℕ) → List ℕ → Record → List ℕ
+record_line names path r = titled names r.beginning.config.me ++ (codes ": " ++ (path ++ (codes ", " ++ (counted (calls_in r) (codes "call") ++ (cut_text (is_cut r.end) ++ codes "\n")))))
 
-abbrev pub line_of : List ℕ × Record → List ℕ
-line_of pair = record_line pair.0 pair.1
+abbrev pub line_of : List (List ℕ) → List ℕ × Record → List ℕ
+line_of names pair = record_line names pair.0 pair.1
 
--- the verdict, and a line for each record
-abbrev pub verdict_text : List (List ℕ) → List Record → Verdict → List ℕ
-verdict_text paths rs v = verdict_line paths rs v ++ flat_map line_of (zip paths rs)
+-- the verdict, and a line for each record, by what members are called
+abbrev pub verdict_text : List (List ℕ) → List (List ℕ) → List Record → Verdict → List ℕ
+verdict_text names paths rs v = verdict_line names paths rs v ++ flat_map (line_of names) (zip paths rs)

@@ -33,7 +33,7 @@ pub fn run_audit<R: Files + AllocGlobal, O: Write, E: Write>(
     out: &mut O,
     err: &mut E,
 ) -> u8
-    ensures audited { IsAudited options.now.output (paths_of options.now.files.items) result (O.contents out.old) (O.contents out.new) }
+    ensures audited { IsAudited options.now.output options.now.names (paths_of options.now.files.items) result (O.contents out.old) (O.contents out.new) }
     // Nothing goes to standard error beside a verdict.
     ensures quiet { IsOfVerdict result → Keeps (E.contents err.old) (E.contents err.new) }
 {
@@ -50,8 +50,8 @@ fn run<R: Files + AllocGlobal, O: Write>(
     options: &AuditOptions<'_>,
     out: &mut O,
 ) -> Result<u8, AuditFault>
-    ensures printed { IfOk result (λ status. IsPrintedOfFiles options.now.output (paths_of options.now.files.items) status (O.contents out.old) (O.contents out.new)) }
-    ensures left { IfErr result (λ fault. LeavesOfFiles options.now.output (paths_of options.now.files.items) fault (O.contents out.old) (O.contents out.new)) }
+    ensures printed { IfOk result (λ status. IsPrintedOfFiles options.now.output options.now.names (paths_of options.now.files.items) status (O.contents out.old) (O.contents out.new)) }
+    ensures left { IfErr result (λ fault. LeavesOfFiles options.now.output options.now.names (paths_of options.now.files.items) fault (O.contents out.old) (O.contents out.new)) }
 {
     let records = read_records(rt, options.files.as_slice())?;
     print_audit(alloc, options, records.as_slice(), out)
@@ -69,8 +69,8 @@ pub fn print_audit<O: Write>(
     out: &mut O,
 ) -> Result<u8, AuditFault>
     // The status is that of a verdict on the records, and what is printed is that verdict: in words where no script or picture is asked for.
-    ensures printed { IfOk result (λ status. IsPrinted options.now.output (paths_of options.now.files.items) records.now status (O.contents out.old) (O.contents out.new)) }
-    ensures left { IfErr result (λ fault. Leaves options.now.output (paths_of options.now.files.items) records.now fault (O.contents out.old) (O.contents out.new)) }
+    ensures printed { IfOk result (λ status. IsPrinted options.now.output options.now.names (paths_of options.now.files.items) records.now status (O.contents out.old) (O.contents out.new)) }
+    ensures left { IfErr result (λ fault. Leaves options.now.output options.now.names (paths_of options.now.files.items) records.now fault (O.contents out.old) (O.contents out.new)) }
 {
     match audit(alloc, records) {
         Ok(verdict) => print(alloc, options, records, &verdict, out),
@@ -100,8 +100,8 @@ fn print<O: Write>(
     out: &mut O,
 ) -> Result<u8, AuditFault>
     requires { IsVerdict records.now verdict.now }
-    ensures printed { IfOk result (λ status. IsPrinted options.now.output (paths_of options.now.files.items) records.now status (O.contents out.old) (O.contents out.new)) }
-    ensures left { IfErr result (λ fault. Leaves options.now.output (paths_of options.now.files.items) records.now fault (O.contents out.old) (O.contents out.new)) }
+    ensures printed { IfOk result (λ status. IsPrinted options.now.output options.now.names (paths_of options.now.files.items) records.now status (O.contents out.old) (O.contents out.new)) }
+    ensures left { IfErr result (λ fault. Leaves options.now.output options.now.names (paths_of options.now.files.items) records.now fault (O.contents out.old) (O.contents out.new)) }
 {
     let text = shown_text(alloc, options, records, verdict)?;
     write_text(out, text.as_slice())?;

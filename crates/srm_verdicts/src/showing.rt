@@ -12,7 +12,7 @@ use crate::scripting::script_of;
 use crate::wording::verdict_text;
 use srm_audited::Verdict;
 use srm_frames::Record;
-use srm_options::{AuditOptions, AuditOutput};
+use srm_options::{AuditOptions, AuditOutput, Names};
 use srm_world::Trace;
 use std::alloc::Global;
 
@@ -25,13 +25,19 @@ pub fn shown_text(
     records: &[Record],
     verdict: &Verdict,
 ) -> Result<Vec<u8>, AuditFault>
-    ensures shown { IfOk result (λ text. IsShown options.now.output (spec.paths_of options.now.files.items) records.now verdict.now text.items) }
+    ensures shown { IfOk result (λ text. IsShown options.now.output options.now.names (spec.paths_of options.now.files.items) records.now verdict.now text.items) }
     ensures none { IfErr result (IsUnshown options.now.output verdict.now) }
 {
     match (options.output, verdict) {
         (AuditOutput::Script, Verdict::Honest(trace)) => script_of(alloc, records, trace),
         (AuditOutput::Picture, Verdict::Honest(trace)) => picture_of(alloc, records, trace),
-        _ => words(alloc, options.files.as_slice(), records, verdict),
+        _ => words(
+            alloc,
+            &options.names,
+            options.files.as_slice(),
+            records,
+            verdict,
+        ),
     }
 }
 
@@ -44,13 +50,14 @@ fn picture_of(alloc: Global, records: &[Record], trace: &Trace) -> Result<Vec<u8
 
 fn words(
     alloc: Global,
+    names: &Names,
     paths: &[&str],
     records: &[Record],
     verdict: &Verdict,
 ) -> Result<Vec<u8>, AuditFault>
-    ensures text { IfOk result (λ text. text.items ≡ spec.verdict_text (spec.paths_of paths.now) records.now verdict.now) }
+    ensures text { IfOk result (λ text. text.items ≡ spec.verdict_text names.now (spec.paths_of paths.now) records.now verdict.now) }
     ensures none { IfErr result (λ fault. fault ≡ Memory) }
 {
-    let text = verdict_text(alloc, paths, records, verdict)?;
+    let text = verdict_text(alloc, names, paths, records, verdict)?;
     Ok(Vec::from_slice(alloc, text.as_bytes())?)
 }

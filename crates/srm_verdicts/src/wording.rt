@@ -9,23 +9,25 @@ use crate::counting::{call_of_entry, calls_in, calls_in_all, cuts_in, is_cut, se
 use crate::detailing::{detail, path_at};
 use srm_audited::{Reason, Verdict};
 use srm_frames::Record;
+use srm_options::Names;
 use std::alloc::{AllocError, Global};
 
-/// Returns a verdict on records as a line, perhaps one that says where in the files a reason stands, and behind it a line for each record: its member, its path, how many calls it has, and whether it is cut. The paths are those of the
-/// records, in their order.
+/// Returns a verdict on records as a line, perhaps one that says where in the files a reason stands, and behind it a line for each record: its member by its name or number, its path,
+/// how many calls it has, and whether it is cut. The paths are those of the records, in their order.
 ///
 /// Fails only if out of memory.
 pub fn verdict_text(
     alloc: Global,
+    names: &Names,
     paths: &[&str],
     records: &[Record],
     verdict: &Verdict,
 ) -> Result<String, AllocError>
-    ensures { IfOk result (λ text. string_bytes text ≡ spec.verdict_text (spec.paths_of paths.now) records.now verdict.now) }
+    ensures { IfOk result (λ text. string_bytes text ≡ spec.verdict_text names.now (spec.paths_of paths.now) records.now verdict.now) }
 {
-    let mut text = verdict_line(alloc, paths, records, verdict)?;
+    let mut text = verdict_line(alloc, names, paths, records, verdict)?;
     for (path, read) in paths.iter().zip(records) {
-        let line = record_line(alloc, path, read)?;
+        let line = record_line(alloc, names, path, read)?;
         text.push_str(line.as_str())?;
     }
     Ok(text)
@@ -33,15 +35,16 @@ pub fn verdict_text(
 
 fn verdict_line(
     alloc: Global,
+    names: &Names,
     paths: &[&str],
     records: &[Record],
     verdict: &Verdict,
 ) -> Result<String, AllocError>
-    ensures { IfOk result (λ text. string_bytes text ≡ spec.verdict_line (spec.paths_of paths.now) records.now verdict.now) }
+    ensures { IfOk result (λ text. string_bytes text ≡ spec.verdict_line names.now (spec.paths_of paths.now) records.now verdict.now) }
 {
     match verdict {
         Verdict::Honest(_) => honest_line(alloc, records),
-        Verdict::NotHonest(reason) => reason_lines(alloc, paths, records, reason),
+        Verdict::NotHonest(reason) => reason_lines(alloc, names, paths, records, reason),
         Verdict::Undecided => undecided_line(alloc, records),
     }
 }
@@ -58,13 +61,14 @@ fn honest_line(alloc: Global, records: &[Record]) -> Result<String, AllocError>
 // A reason, and where it stands in the files.
 fn reason_lines(
     alloc: Global,
+    names: &Names,
     paths: &[&str],
     records: &[Record],
     reason: &Reason,
 ) -> Result<String, AllocError>
-    ensures { IfOk result (λ text. string_bytes text ≡ spec.verdict_line (spec.paths_of paths.now) records.now (NotHonest reason.now)) }
+    ensures { IfOk result (λ text. string_bytes text ≡ spec.verdict_line names.now (spec.paths_of paths.now) records.now (NotHonest reason.now)) }
 {
-    let mut text = reason_line(alloc, paths, records, *reason)?;
+    let mut text = reason_line(alloc, names, paths, records, *reason)?;
     let more = detail(alloc, paths, records, *reason)?;
     text.push_str(more.as_str())?;
     Ok(text)
@@ -72,11 +76,12 @@ fn reason_lines(
 
 fn reason_line(
     alloc: Global,
+    names: &Names,
     paths: &[&str],
     records: &[Record],
     reason: Reason,
 ) -> Result<String, AllocError>
-    ensures { IfOk result (λ text. string_bytes text ≡ spec.reason_line (spec.paths_of paths.now) records.now reason) }
+    ensures { IfOk result (λ text. string_bytes text ≡ spec.reason_line names.now (spec.paths_of paths.now) records.now reason) }
 {
     match reason {
         Reason::Untold { place, .. } => {
@@ -88,16 +93,16 @@ fn reason_line(
             "not honest: the records aren't of different members of one session\n",
         ),
         Reason::Foreign { member, slot } => {
-            let member = member.number();
+            let member = names.titled(member);
             format!(in alloc;
-                "not honest: the worker of page slot {slot} of member {member} took what it wasn't given\n"
+                "not honest: the worker of page slot {slot} of {member} took what it wasn't given\n"
             )
         }
         Reason::Unsent { member, entry } => {
             let call = call_of_entry(records, member, entry);
-            let member = member.number();
+            let member = names.titled(member);
             format!(in alloc;
-                "not honest: call {call} of member {member} hears a datagram that nobody can have sent before\n"
+                "not honest: call {call} of {member} hears a datagram that nobody can have sent before\n"
             )
         }
     }
@@ -113,13 +118,18 @@ fn undecided_line(alloc: Global, records: &[Record]) -> Result<String, AllocErro
     format!(in alloc; "undecided: session {session}, {here} of {wanted}, {cut} of them cut\n")
 }
 
-fn record_line(alloc: Global, path: &str, read: &Record) -> Result<String, AllocError>
-    ensures { IfOk result (λ text. string_bytes text ≡ spec.record_line path.now read.now) }
+fn record_line(
+    alloc: Global,
+    names: &Names,
+    path: &str,
+    read: &Record,
+) -> Result<String, AllocError>
+    ensures { IfOk result (λ text. string_bytes text ≡ spec.record_line names.now path.now read.now) }
 {
-    let member = read.beginning.config.me().number();
+    let member = names.titled(read.beginning.config.me());
     let calls = counted(alloc, calls_in(read), "call")?;
     let cut = cut_text(is_cut(read.end));
-    format!(in alloc; "member {member}: {path}, {calls}{cut}\n")
+    format!(in alloc; "{member}: {path}, {calls}{cut}\n")
 }
 
 // What stands behind a record that is cut.

@@ -97,6 +97,28 @@ def test_names_are_seen(srm, shot):
         quit_all(all_, s)
 
 
+def test_names_of_a_room(srm, shot):
+    """Members of a room have its names, in the list, in what is said and on the window, until one takes another name."""
+    s = RoomSession(srm, 2)
+    all_ = [browser(s.url(i)) for i in range(2)]
+    try:
+        a, b = all_
+        for d, name in zip(all_, ('ada', 'grace')):
+            assert d.title == 'Ringyew 7: ' + name
+            assert d.execute_script('return [0, 1].map(board.name)') == ['ada', 'grace']
+            until(lambda: [it.get_attribute('textContent') for it in d.find_elements(By.CSS_SELECTOR, '#list bdi')] == ['ada', 'grace'], 'the list has both')
+        draw(b, wave(0.2, 0.4))
+        until(lambda: 'grace draws' in a.find_element(By.ID, 'said').get_attribute('textContent'), 'it is said who draws')
+        same(all_, 1)
+        key(a, 'n')
+        until(lambda: a.switch_to.active_element.tag_name == 'input', 'the name is asked for')
+        a.execute_script('document.activeElement.value = arguments[0]', 'Lovelace')
+        key(a, Keys.ENTER)
+        until(lambda: b.execute_script('return [0, 1].map(board.name)') == ['Lovelace', 'grace'], 'one has another name')
+    finally:
+        quit_all(all_, s)
+
+
 def test_keys_and_reader(srm, shot):
     """All by keys alone: draw, select the next shape, move, size, copy, erase, take back; and what happens is said to a screen reader."""
     s = Session(srm, 2)

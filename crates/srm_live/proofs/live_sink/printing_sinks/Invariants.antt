@@ -5,5 +5,5 @@ use Rattle.srm_live.proofs.live_sink.printing_sinks.Given as goal
 abbrev pub invariant-loop : goal.invariant-loop
 invariant-loop g l = record {
   count : vec_len l.sinks ≡ l.counter;
-  new : All (λ s. s ≡ new_printing l.fn.me) l.sinks.items;
+  new : All (λ s. s ≡ new_printing l.fn.names l.fn.me) l.sinks.items;
 }
