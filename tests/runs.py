@@ -16,6 +16,7 @@ class Run:
 
     at: int  # the line that begins it
     words: list
+    ports: dict  # those of this run, by name
     stdin: bytes = b""
     status: int = 0
     out: list = dataclasses.field(default_factory=list)  # all lines of standard output, unless texts are said that stand in it
@@ -43,7 +44,7 @@ def shown(text):
 
 
 def read_runs(text, ports):
-    """The runs of a file. `{NAME}` in a command line is a port of this machine, by its name."""
+    """The runs of a file. `{NAME}` in a command line, or behind `in-ports`, is a port of this machine, by its name."""
     runs = []
     for number, line in enumerate(text.split(b"\n"), 1):
         if not line or line.startswith(b"#"):
@@ -51,13 +52,23 @@ def read_runs(text, ports):
         word, _, rest = line.partition(b" ")
         try:
             if word == b"$":
-                names = {it: ports.of(it) for it in re.findall(r"\{(\w+)\}", rest.decode())}
-                runs.append(Run(number, rest.decode().format(**names).split()))
+                runs.append(Run(number, [], {}))
+                runs[-1].words = named(runs[-1], rest, ports).split()
+            elif word == b"in-ports":
+                runs[-1].stdin += named(runs[-1], rest, ports).encode() + b"\n"
             else:
                 read_line(runs[-1], word.decode(), rest)
         except (IndexError, KeyError, ValueError):
             raise BadLine(f"line {number}: bad") from None
     return runs
+
+
+def named(run, text, ports):
+    """The text with the run's port in place of each `{NAME}`."""
+    for it in re.findall(r"\{(\w+)\}", text.decode()):
+        if it not in run.ports:
+            run.ports[it] = ports.of(it)
+    return text.decode().format(**run.ports)
 
 
 def read_line(run, word, rest):

@@ -8,8 +8,11 @@ use srm_arguments::{ArgumentFault, read_arguments, texts_of};
 use srm_board::run_board;
 use srm_live::{PolledInput, run_live};
 use srm_member::{print_reply, run_node};
-use srm_options::{WorldOptions, read_audit, read_board, read_node_on, read_picture, read_world};
+use srm_options::{WorldOptions, read_picture, read_room_command, read_world};
 use srm_played::run_picture;
+use srm_rooms::{
+    BoardLines, NodeLines, Unjoined, audit_options, board_options, node_options, run_room,
+};
 use srm_script::{Dialect, run_script_in};
 use srm_verdicts::run_audit;
 use std::alloc::Global;
@@ -30,20 +33,43 @@ fn main(rt: HostRuntime) -> ExitCode {
         return ExitCode::from(ArgumentFault::Memory.print(&mut err));
     };
     let status = match texts.as_slice() {
-        ["node", arguments @ ..] => match read_node_on(&rt, alloc, arguments) {
+        ["node", arguments @ ..] => match node_options(
+            &rt,
+            alloc,
+            &NodeLines(rt),
+            arguments,
+            &mut err,
+        ) {
             Ok(options) if options.live => {
                 let input = PolledInput::new(&rt, alloc, rt.stdin(), STDIN);
                 run_live(&rt, options, input, rt.stdout(), rt.stderr())
             }
             Ok(options) => run_node(&rt, options, &mut rt.stdin(), &mut writer(&rt), &mut err),
-            Err(reply) => print_reply(&reply, &mut writer(&rt), &mut err),
+            Err(unjoined) => print_unjoined(&unjoined, &mut writer(&rt), &mut err),
         },
-        ["board", arguments @ ..] => match read_board(&rt, alloc, arguments) {
+        ["board", arguments @ ..] => match board_options(
+            &rt,
+            alloc,
+            &BoardLines(rt),
+            arguments,
+            &mut err,
+        ) {
             Ok(options) => run_board(
                 &rt,
                 options,
                 terminal_of(&rt, alloc, rt.stdin()),
                 rt.stderr(),
+            ),
+            Err(unjoined) => print_unjoined(&unjoined, &mut writer(&rt), &mut err),
+        },
+        ["room", arguments @ ..] => match read_room_command(alloc, arguments) {
+            Ok(command) => run_room(
+                &rt,
+                alloc,
+                &command,
+                &mut rt.stdin(),
+                &mut writer(&rt),
+                &mut err,
             ),
             Err(reply) => print_reply(&reply, &mut writer(&rt), &mut err),
         },
@@ -70,9 +96,17 @@ fn judge<'a, R: Files + AllocGlobal, O: Write, E: Write>(
     out: &mut O,
     err: &mut E,
 ) -> u8 {
-    match read_audit(rt.alloc(), arguments) {
+    match audit_options(rt, rt.alloc(), arguments, err) {
         Ok(options) => run_audit(rt, &options, out, err),
-        Err(reply) => print_reply(&reply, out, err),
+        Err(unjoined) => print_unjoined(&unjoined, out, err),
+    }
+}
+
+/// Prints why a line isn't carried out. The program's status.
+fn print_unjoined<O: Write, E: Write>(unjoined: &Unjoined, out: &mut O, err: &mut E) -> u8 {
+    match unjoined {
+        Unjoined::Reply(reply) => print_reply(reply, out, err),
+        Unjoined::Room(fault) => fault.print(err),
     }
 }
 
