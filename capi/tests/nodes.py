@@ -1,5 +1,5 @@
-"""Members of one room by the examples `node` and one `srm node` on loopback, over a relay that loses a tenth: all take the same strokes, and an audit of the program's record
-finds nothing wrong: it is whole, and of a run of these members that may have been.
+"""Members of one room by the examples `node` and one live `srm node` on loopback, over a relay that loses a tenth: all take the same strokes, and an audit of the program's
+record finds nothing wrong: it is whole, and of a run of these members that may have been.
 
 nodes.py SRM NODE..: the program, and the command of each other member."""
 
@@ -16,8 +16,10 @@ import threading
 
 STROKES = 40
 NAMES = ("ada", "grace", "edsger", "barbara", "tony")
+# A live `srm node` calls members by their names, the examples by their places.
+PLACES = {word: place for place, name in enumerate(NAMES) for word in (name, str(place))}
 SECONDS = 90
-# What all members have in common, as a room has it. Who joins by options in place of a room has the same.
+# What all members have in common, as a room has it.
 SESSION, LINGER, SETTINGS = 7, 8_000_000, {"least-distance": 5_000, "rate": 64_000, "depth": 4_204, "most-missing": 16_777_216}
 
 
@@ -56,35 +58,28 @@ def room_of(key, addresses):
     return f'ringyew = 1\nsession = {SESSION}\nkey = "{key.hex()}"\n\n{people}[settings]\nwaits = [2, 2, 1, 1]\nlinger = {LINGER}\n{settings}'
 
 
-def of_srm(srm, me, room, key, addresses, record):
-    """The command line of `srm node`: by its room where it takes one, else by the same words as options."""
-    staying = ["--stay", "10000000", "--record", str(record)]
-    if "--room" in subprocess.run([srm, "node", "--help"], capture_output=True, text=True, check=True).stdout:
-        return [srm, "node", "--room", str(room), "--me", NAMES[me], *staying]
-    file = room.with_suffix(".key")
-    file.write_bytes(key)
-    words = [word for name, value in SETTINGS.items() for word in (f"--{name}", str(value))]
-    return [srm, "node", "--session", str(SESSION), "--me", str(me), "--waits", "2,2,1,1", *words, "--key", str(file), *staying, *addresses]
-
-
-def audited(srm, record, count):
-    """What is wrong with the program's record, by `srm audit`. The others have none, so a whole and honest one alone is undecided, with status 7."""
-    ran = subprocess.run([srm, "audit", str(record)], capture_output=True, text=True, check=False)
-    if ran.returncode != 7 or not ran.stdout.startswith(f"undecided: session {SESSION}, 1 of {count} records, 0 of them cut\n"):
+def audited(srm, room, record, me, count):
+    """What is wrong with the program's record, by `srm audit`. The others have none, so a whole and honest one alone is undecided, with status 7. It has the member's name."""
+    ran = subprocess.run([srm, "audit", "--room", str(room), str(record)], capture_output=True, text=True, check=False)
+    first, _, second = ran.stdout.partition("\n")
+    if ran.returncode != 7 or first != f"undecided: session {SESSION}, 1 of {count} records, 0 of them cut" or NAMES[me] not in second.split(":")[0].split():
         return [f"srm audit: status {ran.returncode}: {ran.stdout}{ran.stderr}"]
     return []
 
 
+def draws(told):
+    """The strokes that a member's page worker took, in order: source, number and text."""
+    return [(PLACES[source], int(number), text) for source, number, text in re.findall(r"^took \w+ 0 draw (\w+) (\d+) (.*)$", told, re.M)]
+
+
 def taken(told):
     """The strokes that a member took, by source and number, and whether it is gone."""
-    strokes = {(int(source), int(number)): text for source, number, text in re.findall(r"^took \d 0 draw (\d) (\d+) (.*)$", told, re.M)}
-    return strokes, "gone" in told
+    return {(source, number): text for source, number, text in draws(told)}, "gone" in told
 
 
 def in_order(told, members):
     """Whether the numbers of each source rise by one from 1."""
-    numbers = [(int(source), int(number)) for source, number in re.findall(r"^took \d 0 draw (\d) (\d+) ", told, re.M)]
-    return all([number for of, number in numbers if of == source] == list(range(1, STROKES + 1)) for source in range(members))
+    return all([number for of, number, _ in draws(told) if of == source] == list(range(1, STROKES + 1)) for source in range(members))
 
 
 def main(srm, *nodes):
@@ -113,7 +108,8 @@ def run(folder, srm, *nodes):
         if me < len(nodes):
             command = [*shlex.split(nodes[me]), "--room", str(room), "--me", NAMES[me]]
         else:
-            command = of_srm(srm, me, room, key, addresses, record)
+            # What comes over a relay doesn't come from its sender's address; the key's tag says who sent it.
+            command = [srm, "node", "--room", str(room), "--me", NAMES[me], "--live", "--any-origin", "--stay", "10s", "--record", str(record)]
         members.append(subprocess.Popen(command, stdin=subprocess.PIPE, stdout=subprocess.PIPE, text=True))
     for me, member in enumerate(members):
         member.stdin.write("".join(f"stroke {number} of member {me}\n" for number in range(STROKES)))
@@ -144,7 +140,7 @@ def run(folder, srm, *nodes):
     came, lost = sum(relay.came for relay in relays), sum(relay.lost for relay in relays)
     if not lost:
         wrong.append("nothing was lost")
-    wrong += audited(srm, record, count)
+    wrong += audited(srm, folder / f"{NAMES[len(nodes)]}.room", record, len(nodes), count)
     print("\n".join(wrong) or f"{count * STROKES} strokes, each taken by all {count}, with {lost} of {came} datagrams lost; an audit finds nothing wrong")
     return len(wrong) > 0
 
