@@ -17,14 +17,15 @@ use Rattle.srm_recovery.specs.Emptying.{price, gone_by}
 use Rattle.srm_recovery.specs.Reporting.{longest_interval}
 use Rattle.srm_recovery.specs.Waits.{longest_request_wait, longest_repair_wait}
 
--- Members are 50 ms apart, with the default waits. The network takes up to 60 ms. Each ticks, and empties its bucket, each 10 ms.
+-- Members are 50 ms apart, with the default waits. The network takes up to 60 ms. Each ticks, and empties its bucket, each 10 ms. A hold-off may last 300 ms: before it heard an echo, a member
+-- takes another one to be 100 ms away.
 abbrev far : Timing
-far = record { clock = λ m. 0; delay = 60000; tick = 10000; emptying = 10000; repair_wait = 100000; hold_off = 150000 }
+far = record { clock = λ m. 0; delay = 60000; tick = 10000; emptying = 10000; repair_wait = 100000; hold_off = 300000 }
 
 abbrev member : ℕ → ℕ → Start
 member members me = record { config = in_roster me members 4204; made = 0 }
 
-far_settles : settling_time far ≡ 270000
+far_settles : settling_time far ≡ 420000
 far_settles = refl
 
 far_repairs : repair_time far 200000 ≡ 460000
@@ -38,9 +39,9 @@ far_shares = refl
 
 -- On a LAN distances count as 5 ms, as with `--live`, and the network takes up to a millisecond.
 abbrev near : Timing
-near = record { clock = λ m. 0; delay = 1000; tick = 10000; emptying = 10000; repair_wait = longest_repair_wait 5000 (member 2 0); hold_off = 15000 }
+near = record { clock = λ m. 0; delay = 1000; tick = 10000; emptying = 10000; repair_wait = longest_repair_wait 5000 (member 2 0); hold_off = 300000 }
 
-near_settles : settling_time near ≡ 17000
+near_settles : settling_time near ≡ 302000
 near_settles = refl
 
 near_repairs : repair_time near 20000 ≡ 72000

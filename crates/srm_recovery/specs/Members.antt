@@ -74,7 +74,8 @@ ReleasesBy t p m s drawops now = (h : EntryWithin t p m 0 now) × IsPrefix drawo
 abbrev pub WaitsAtMost : Trace → Timing → ArmKind → ℕ → FullName → ℕ → ℕ → Type 0
 WaitsAtMost t p kind m n to longest = (h : EntryWithin t p m 0 to) (a : Armed) → arm_in kind n h.this ≡ Some a → a.arm.wait ≤ longest
 
--- no hold-off of its lasts longer
+-- No hold-off of its lasts longer: at no time, up to the end of the run, it takes another member to be so far that one would. That is 300 ms at least, since it takes another one to be
+-- 100 ms away before it heard an echo of it.
 abbrev pub HoldsOffAtMost : Trace → ℕ → ℕ → Type 0
 HoldsOffAtMost t m longest = AllByRecursion (λ (a : Start).
     a.config.me ≡ m → (before after : List Entry) (b : ℕ) → of_member m t.entries ≡ before ++ after → held_until 0 (distance a.config before b) ≤ longest) t.starts

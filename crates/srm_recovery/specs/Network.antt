@@ -32,7 +32,7 @@ Carries arrives t p kind m k from to =
     (h : EntryWithin t p m from to) (g : Datagram) → kind g ≡ true → Contains h.this.effects.outs g → time_of p m h.this + p.delay ≤ to
     → arrives k g (time_of p m h.this) (time_of p m h.this + p.delay)
 
--- what m accepts of a kind k sent at most the delay before; or it arrives at k too, at most the delay sooner or later
+-- Each datagram of a kind that m accepts was sent by k at most the delay before, or arrives at k too, at most the delay sooner or later.
 abbrev pub ComesToBoth : Arrival → Trace → Timing → (Datagram → Bool) → ℕ → ℕ → ℕ → ℕ → Type 0
 ComesToBoth arrives t p kind m k from to =
     (h : EntryWithin t p m (from + p.delay) to) (g : Datagram) → kind g ≡ true → accepted h.this ≡ Some g → time_of p m h.this + p.delay ≤ to
@@ -56,7 +56,7 @@ pub record Connects (arrives : Arrival) (t : Trace) (p : Timing) (n : FullName) 
   pub repair_wait : WaitsAtMost t p Fix k n to p.repair_wait
   pub hold_off : HoldsOffAtMost t k p.hold_off
 
--- the session message that a member owes next, at any time up to one, is due by another
+-- at each time up to `from`, the session message that the member owes next is due by `late`
 abbrev pub OwesBy : Trace → Timing → ℕ → ℕ → ℕ → Type 0
 OwesBy t p m from late = AllByRecursion (λ (a : Start). a.config.me ≡ m
     → (before after : List Entry) → of_member m t.entries ≡ before ++ after → p.clock m + last_moment a.made before ≤ from → p.clock m + session_due a.config a.made before ≤ late) t.starts

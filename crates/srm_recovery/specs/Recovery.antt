@@ -18,7 +18,8 @@ RecoveryLaw = (t : Trace) (p : Timing) (from now to m k : ℕ) (n : FullName) (r
     → from + settling_time p ≤ now → now + repair_time p request_wait ≤ to
     → HoldsBy t p k n from → KnowsBy t p m n now → HoldsBy t p m n (now + repair_time p request_wait)
 
--- Sharing: the network connects an asker to a holder, and the holder tells the asker of the page. What the holder held from the start, the asker holds a sharing time later.
+-- Sharing: the network connects an asker to a holder, and the holder tells the asker of the page. No request timer that the asker sets up to the end waits longer. What the holder held
+-- from the start, the asker holds a sharing time later.
 abbrev pub SharingLaw : Type 0
 SharingLaw = (t : Trace) (p : Timing) (interval request_wait from to m k : ℕ) (n : FullName) → IsRun t
     → Connects (AcceptsWithin t p) t p n m k from to → Tells (AcceptsWithin t p) t p n.stream.page interval k m from to → WaitsAtMost t p Ask m n to request_wait

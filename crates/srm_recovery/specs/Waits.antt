@@ -12,7 +12,7 @@ use Rattle.srm_world.specs.Traces.{Trace, of_member, IsRun}
 use Rattle.srm_recovery.specs.Timing.{Timing}
 use Rattle.srm_recovery.specs.Members.{WaitsAtMost, HoldsOffAtMost}
 
--- at no time does the member take another one to be at a greater distance
+-- at no time does the member take another one to be at a greater distance, which is 100 ms at least: it is taken for so much before an echo was heard
 abbrev pub NearAtMost : List Entry → ℕ → Start → Type 0
 NearAtMost es greatest_distance a = (before after : List Entry) (b : ℕ) → of_member a.config.me es ≡ before ++ after → distance a.config before b ≤ greatest_distance
 

@@ -9,7 +9,8 @@ ghost use Rattle.srm_recovery.specs.Recovery.{ReadingLaw, RecoveryLaw, SharingLa
 ghost use Rattle.srm_recovery.specs.Reporting.{ReportingLaw};
 ghost use Rattle.srm_recovery.specs.Waits.{WaitsLaw};
 
-/// States the law of recovery: how soon a loss is repaired. Does nothing. A member that misses a stroke that another one holds, holds it a repair time later, if the network connects the two and has settled.
+/// States the law of recovery: how soon a loss is repaired. Does nothing. A member that knows of a stroke which another one held when the network
+/// began to connect the two, holds it a repair time later, if the network has settled.
 ///
 /// The network connects an asker to a holder, as to one name, from one time to another:
 ///
@@ -17,8 +18,8 @@ ghost use Rattle.srm_recovery.specs.Waits.{WaitsLaw};
 /// - requests for the name that the asker sends, the holder accepts within `delay`; repairs of it that the holder sends, the asker accepts within `delay`;
 /// - what silences the asker comes to the holder too: a request that the asker accepts, the holder accepts within `delay` of that, sooner or later, or sent itself at most `delay`
 ///   before. Likewise a repair that the holder accepts comes to the asker;
-/// - no repair timer of the holder's for the name waits longer than `repair_wait`, no hold-off of its lasts longer than `hold_off`, and no request timer that the asker has set so far
-///   waits longer than `request_wait`.
+/// - no repair timer of the holder's for the name waits longer than `repair_wait`, no hold-off of its ever lasts longer than `hold_off` ([`waits`]), and no request timer for the name
+///   that the asker has set so far waits longer than `request_wait`.
 ///
 /// It has settled after the longest of `hold_off` + 2 `delay` and `emptying` + `delay`. A repair then takes `request_wait` + `repair_wait` + 2 (`tick` + `emptying` + `delay`). All
 /// times are microseconds of one clock; a member's own may have begun at any time, and runs as fast.
@@ -32,7 +33,8 @@ pub fn recovers()
 /// sharing time later.
 ///
 /// The premises are those of [`recovers`], and that the holder shows the page of the name all the time, that its next session message is due within `interval`, and that the asker
-/// accepts each of its session messages within `delay`. A sharing time is the longer of the settling time and `interval` + `tick` + `delay`, and a repair time after that.
+/// accepts each of its session messages within `delay`. Here `request_wait` bounds each request timer for the name that the asker sets up to the end, also one that it sets again. A
+/// sharing time is the longer of the settling time and `interval` + `tick` + `delay`, and a repair time after that.
 ///
 /// Nothing is said of pages that the holder doesn't show, nor of a holder that turns its pages.
 pub fn shares()
@@ -119,7 +121,8 @@ pub fn reports()
 /// States the law of waits: how long timers wait, and hold-offs last. Does nothing. Where no member ever takes another one to be at a greater distance, a request timer waits at most 256 (`c1` + `c2`) such distances, a
 /// repair timer at most `d1` + `d2`, and a hold-off lasts at most three.
 ///
-/// That is the longest of all waits. A request timer with the exponent *e* waits at most 2^*e* (`c1` + `c2`) distances.
+/// That is the longest of all waits. A request timer with the exponent *e* waits at most 2^*e* (`c1` + `c2`) distances. A member takes another one to be 100 ms away before it heard an
+/// echo of it: so the greatest distance is no less, and the bound on hold-offs is 300 ms or more.
 pub fn waits()
     ensures { WaitsLaw }
 {}
