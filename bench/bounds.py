@@ -3,9 +3,9 @@
 Members 50 ms apart, with the default waits, over a network that takes up to 60 ms, as in Examples.antt there:
 
 >>> waits = Waits(2, 2, 1, 1)
->>> far = Timing(delay=60_000, tick=10_000, emptying=10_000, repair_wait=waits.longest_repair(50_000), hold_off=HOLD_OFF * 50_000)
+>>> far = Timing(delay=60_000, tick=10_000, emptying=10_000, repair_wait=waits.longest_repair(50_000), hold_off=HOLD_OFF * FIRST_DISTANCE)
 >>> far.settling_time(), far.repair_time(200_000), far.repair_time(waits.longest_request(50_000, 8)), far.sharing_time(1_000_000, 200_000)
-(270000, 460000, 51460000, 1530000)
+(420000, 460000, 51460000, 1530000)
 >>> longest_interval(8_000, 2, session_length(2, 2)), longest_interval(8_000, 32, session_length(32, 32))
 (1000000, 64480000)
 """

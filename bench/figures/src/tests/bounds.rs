@@ -2,27 +2,28 @@
 
 use crate::figure::waits;
 use crate::timing::{
-    GREATEST_EXPONENT, Timing, emptying_time, exponent_within, longest_hold_off, longest_interval, longest_repair_wait,
+    FIRST_DISTANCE, GREATEST_EXPONENT, Timing, emptying_time, exponent_within, longest_hold_off, longest_interval, longest_repair_wait,
     longest_request_wait, session_length,
 };
 use srm_bench::losses::Waits;
 
 const DEFAULT: Waits = waits([2, 2, 1, 1]);
 
+/// Before its first echo a member takes another one to be farther away than these are.
 fn timing(delay: u64, distance: u64) -> Timing {
     Timing {
         delay,
         tick: 10_000,
         emptying: 10_000,
         repair_wait: longest_repair_wait(DEFAULT, distance),
-        hold_off: longest_hold_off(distance),
+        hold_off: longest_hold_off(distance.max(FIRST_DISTANCE)),
     }
 }
 
 #[test]
 fn members_far_away_recover_as_is_proved() {
     let far = timing(60_000, 50_000);
-    assert_eq!(far.settling_time(), 270_000);
+    assert_eq!(far.settling_time(), 420_000);
     assert_eq!(far.repair_time(200_000), 460_000);
     assert_eq!(far.repair_time(longest_request_wait(DEFAULT, GREATEST_EXPONENT, 50_000)), 51_460_000);
     assert_eq!(far.sharing_time(1_000_000, 200_000), 1_530_000);
@@ -31,7 +32,7 @@ fn members_far_away_recover_as_is_proved() {
 #[test]
 fn members_on_a_lan_recover_as_is_proved() {
     let near = timing(1_000, 5_000);
-    assert_eq!(near.settling_time(), 17_000);
+    assert_eq!(near.settling_time(), 302_000);
     assert_eq!(near.repair_time(20_000), 72_000);
     assert_eq!(near.repair_time(longest_request_wait(DEFAULT, GREATEST_EXPONENT, 5_000)), 5_172_000);
     assert_eq!(near.sharing_time(1_000_000, 20_000), 1_083_000);
