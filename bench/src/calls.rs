@@ -66,7 +66,7 @@ impl Setup {
     pub fn plain_agent(self) -> Agent {
         let Setup { me, members, rate, depth } = self;
         let (rate, depth) = (rate.into(), depth.into());
-        let config = Config { me, members, session: SESSION, rate, depth, c1: 2, c2: 2, d1: 1, d2: 1 };
+        let config = Config { me, members, session: SESSION, rate, depth, c1: 2, c2: 2, d1: 1, d2: 1, least_distance: 1 };
         Agent::new(config, Pcg::new(1), 0)
     }
 }

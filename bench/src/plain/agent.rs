@@ -10,6 +10,9 @@ use crate::words::Pcg;
 /// The longest body, in bytes.
 const BODY: usize = 1_024;
 
+/// The bytes before a body in its datagram.
+const DRAWOP_HEAD: usize = 27;
+
 /// The distance to a member of whom nothing is known, in microseconds.
 const USUAL_DISTANCE: u64 = 100_000;
 
@@ -24,6 +27,8 @@ pub struct Config {
     pub c2: u64,
     pub d1: u64,
     pub d2: u64,
+    /// No distance to another member is taken as less, in microseconds.
+    pub least_distance: u64,
 }
 
 #[derive(Clone, Copy, Debug, PartialEq, Eq)]
@@ -88,7 +93,7 @@ pub struct Agent {
 
 impl Agent {
     pub fn new(config: Config, words: Pcg, now: u64) -> Agent {
-        let mut distances = [USUAL_DISTANCE; MEMBERS as usize];
+        let mut distances = [USUAL_DISTANCE.max(config.least_distance); MEMBERS as usize];
         distances[usize::from(config.me)] = 0;
         Agent {
             words,
@@ -145,6 +150,34 @@ impl Agent {
             None => (Vec::new(), Outcome::Ignored),
             Some(arms) => (arms, Outcome::Taken),
         }
+    }
+
+    /// How many names are missing.
+    pub fn missing(&self) -> u32 {
+        let mut count = 0;
+        self.table.for_each(|_, _, row| count += row.missing());
+        count
+    }
+
+    /// Whether a repair timer runs, or requests or repairs wait for the rate.
+    pub fn is_needed(&self) -> bool {
+        let mut is_needed = self.bucket.has_answers();
+        self.table.for_each(|_, _, row| is_needed |= row.repairs());
+        is_needed
+    }
+
+    /// Whether the rate lets a draw of so many bytes go at once, behind all that waits.
+    pub fn admits_draw(&self, length: usize, now: u64) -> bool {
+        self.bucket.admits(DRAWOP_HEAD + length, now)
+    }
+
+    /// How many strokes of a source on the first page came without a gap.
+    pub fn released(&self, source: u8) -> u32 {
+        self.table.row(0, source).released
+    }
+
+    pub fn state(&self) -> State {
+        self.state
     }
 
     /// The member begins to leave.

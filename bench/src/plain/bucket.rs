@@ -37,6 +37,19 @@ impl Bucket {
         self.queues[if is_shown { 0 } else { 2 }].push_back(datagram);
     }
 
+    /// Whether requests or repairs wait.
+    pub fn has_answers(&self) -> bool {
+        !self.queues[0].is_empty() || !self.queues[2].is_empty()
+    }
+
+    /// Whether a datagram of so many bytes may go at once, behind all that waits.
+    pub fn admits(&self, length: usize, now: u64) -> bool {
+        let gained = now.saturating_sub(self.last).saturating_mul(self.rate);
+        let level = self.level.saturating_add(gained).min(self.depth * SECOND);
+        let waiting: usize = self.queues.iter().flatten().map(Datagram::length).sum();
+        (waiting + length) as u64 * SECOND <= level
+    }
+
     /// The next that may go.
     pub fn pop(&mut self, now: u64) -> Option<Datagram> {
         if now > self.last {

@@ -125,7 +125,7 @@ impl Agent {
         {
             peer.taken = Some(echo.t1);
             let way = (now - echo.t1).saturating_sub(echo.delay) / 2;
-            self.distances[usize::from(sender)] = way.clamp(1, 10 * SECOND);
+            self.distances[usize::from(sender)] = way.clamp(self.config.least_distance, 10 * SECOND);
         }
         if peer.latest.is_none_or(|(latest, _)| latest < sent) {
             peer.latest = Some((sent, now));

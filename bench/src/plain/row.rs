@@ -187,6 +187,16 @@ impl Row {
         self.first_fix = self.first_fix.min(end);
     }
 
+    /// How many numbers are missing.
+    pub fn missing(&self) -> u32 {
+        (1..=self.known).filter(|number| matches!(self.place(*number), Place::Missing(_))).count() as u32
+    }
+
+    /// Whether a repair timer runs.
+    pub fn repairs(&self) -> bool {
+        self.answers.iter().flatten().any(|block| block.ends.iter().any(|end| *end != NEVER))
+    }
+
     /// Whether a request sets a repair timer: none runs, and the name isn't held off.
     pub fn is_free(&self, number: u32, now: u64) -> bool {
         let (block, index) = split(number);
