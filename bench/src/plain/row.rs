@@ -187,14 +187,18 @@ impl Row {
         self.first_fix = self.first_fix.min(end);
     }
 
-    /// How many numbers are missing.
+    /// How many numbers are missing. Each has a request timer.
     pub fn missing(&self) -> u32 {
+        if self.first_ask == NEVER {
+            return 0;
+        }
         (1..=self.known).filter(|number| matches!(self.place(*number), Place::Missing(_))).count() as u32
     }
 
     /// Whether a repair timer runs.
     pub fn repairs(&self) -> bool {
-        self.answers.iter().flatten().any(|block| block.ends.iter().any(|end| *end != NEVER))
+        let runs = |block: &Answers| block.first != NEVER && block.ends.iter().any(|end| *end != NEVER);
+        self.answers.iter().flatten().any(|block| runs(block))
     }
 
     /// Whether a request sets a repair timer: none runs, and the name isn't held off.
