@@ -1,21 +1,25 @@
 -- A wire over UDP at worked calls.
-use Rattle.std.specs.Prelude.{◌≡◌, ◌<◌, ℕ, true, false, List, [], ◌∷◌, get_or, Some, None, refl}
+use Rattle.std.specs.Prelude.{◌≡◌, ◌<◌, ℕ, true, false, List, [], ◌∷◌, get_or, Option, Some, None, Ok, refl}
 use Rattle.std.specs.declared.net.socket_addr.SocketAddr.{SocketAddr}
 use Rattle.std.specs.declared.io.ErrorKind.{ErrorKind}
 use Rattle.std.proofs.Common.{ap, arith, inl, inr, subst, sym, ◌∙◌}
 use Rattle.srm_wire.specs.Wires.{greatest_count, answered_with, bytes_to, none_there}
 use Rattle.srm_udp.specs.Clocks.{NeverFalls}
-use Rattle.srm_wire.specs.declared.loss.Loss.TheVariants.{Denied}
-use Rattle.srm_udp.specs.Inboxes.{Arrival, ArriveEach, InboxView, heard, Arrives, IsAddressOf, SamePlace, named_sender, new_inbox, TakesIn, none_dropped, one_overflowed, one_stranger}
+use Rattle.srm_wire.specs.declared.loss.Loss.TheVariants.{Denied, PortClosed}
+use Rattle.srm_udp.specs.Inboxes.{Arrival, ArriveEach, HidesNone, InboxView, MayFail, TakesOne, heard, Arrives, IsAddressOf, SamePlace, named_sender, new_inbox, TakesIn, none_dropped, one_overflowed, one_stranger, pending_error, returned_error}
+use Rattle.srm_udp.specs.Losses.{error_by, send_error}
+use Rattle.srm_udp.specs.declared.inbox.Told.TheVariants.{Nothing, Failed}
+use Rattle.std.specs.declared.io.ErrorKind.TheVariants.{WouldBlock, ConnectionRefused}
+use Rattle.srm_wire.specs.declared.loss.Loss.{Loss}
 use Rattle.srm_wire.specs.Counts.{no_drops, no_losses, only_failed}
 use Rattle.srm_udp.specs.declared.first_failure.WireFailure.TheVariants.{Send, Receive}
 use Rattle.srm_udp.specs.Failures.{IsOfWire}
 use Rattle.srm_udp.specs.Resting.{PausesRested, came_with, rest_of}
 use Rattle.srm_udp.specs.Waiting.{cut, Takes}
 use Rattle.srm_udp.specs.Posts.{Post, post}
-use Rattle.srm_udp.specs.Udp.{UdpView, BringsNext, CountsSend, SendsOne, counted_by, new_wire, one_more_failure, one_more_loss, posted}
+use Rattle.srm_udp.specs.Udp.{UdpView, BringsNext, CountsSend, SendsOne, counted_by, new_wire, one_more_failure, one_more_loss, posted, with_refused, AnswersSend}
 
-the_first_failure : one_more_failure (new_wire []) ≡ record { inbox = new_inbox []; failures = 1; losses = no_losses; went = [] }
+the_first_failure : one_more_failure (new_wire []) ≡ record { inbox = new_inbox []; failures = 1; losses = no_losses; went = []; refused = [] }
 the_first_failure = refl
 
 the_greatest_count_stays : one_more_failure (record (new_wire []) { failures = greatest_count }) ≡ record (new_wire []) { failures = greatest_count }
@@ -112,30 +116,89 @@ a_loss_comes_first = (refl, refl)
 it_is_cut_to_the_room : BringsNext None ((1 ∷ 2 ∷ []) ∷ []) 1 (answered_with (1 ∷ [])) (new_wire []) (new_wire [])
 it_is_cut_to_the_room = (refl, refl)
 
+looks_at_nothing : (roster : List SocketAddr) → TakesIn 256 (new_inbox roster) (new_inbox roster)
+looks_at_nothing roster = record { arrivals = []; few = omega arith; between = new_inbox roster; came = refl; then_error = inl refl; waits = λ error is. refl }
+
+-- a call returned an error, which is pending then
+an_error_came : TakesIn 256 (new_inbox []) (pending_error None (new_inbox []))
+an_error_came = record { arrivals = []; few = omega arith; between = new_inbox []; came = refl; then_error = inr (None, refl); waits = λ error is. cc is }
+
+-- one that no call returned can't be pending
+not_of_itself : (error : Option Loss) → MayFail (new_inbox []) (record (new_inbox []) { pending = Some error }) → ⊥
+not_of_itself error (inl is) = cc (ap (λ (b : InboxView). b.pending) is)
+not_of_itself error (inr (other, is)) = cc (ap (λ (b : InboxView). b.errors) is)
+
+-- nor may one that a call returned be left out
+not_left_out : (error : Option Loss) → MayFail (new_inbox []) (returned_error error (new_inbox [])) → ⊥
+not_left_out error (inl is) = cc (ap (λ (b : InboxView). b.errors) is)
+not_left_out error (inr (other, is)) = cc (ap (λ (b : InboxView). b.pending) is)
+
+-- what a call returned is told as this error, and not as nothing
+a_failure_is_told : (room : List ℕ) → TakesOne room (Failed None) (new_inbox []) (returned_error None (new_inbox []))
+a_failure_is_told room = refl
+
+a_failure_is_not_hidden : (room : List ℕ) → TakesOne room Nothing (new_inbox []) (returned_error None (new_inbox [])) → ⊥
+a_failure_is_not_hidden room is = cc (ap (λ (b : InboxView). b.errors) is)
+
+-- that no datagram is there is no error, and any other answer is one
+nothing_is_there : (loss : Option Loss) → error_by WouldBlock loss ≡ None
+nothing_is_there loss = refl
+
+nobody_listens : error_by ConnectionRefused (Some PortClosed) ≡ Some (Some PortClosed)
+nobody_listens = refl
+
+-- a new wire hides no error, and neither does one that answered a denied datagram and has a failure pending
+hides_none_at_first : (roster : List SocketAddr) → HidesNone [] (new_inbox roster)
+hides_none_at_first roster = refl
+
+hides_none_pending : HidesNone (Some Denied ∷ []) (pending_error None (returned_error (Some Denied) (new_inbox [])))
+hides_none_pending = refl
+
+-- but one that returned a failure, and neither answered it nor has it pending, does
+hides_one : HidesNone [] (returned_error None (new_inbox [])) → ⊥
+hides_one is = cc is
+
 -- a send to a member without an address fails
 nobody_is_there : SendsOne (bytes_to 0 (1 ∷ [])) true (new_wire []) (one_more_failure (new_wire []))
 nobody_is_there = record {
-  takes = record { arrivals = []; between = new_inbox []; came = refl; then_error = refl; waits = λ error is. refl };
+  takes = looks_at_nothing [];
   counts = refl;
+  answers = (refl, refl);
   stranger = λ few. refl;
+  hides_none = λ answered had. had;
 }
-
-looks_at_nothing : (roster : List SocketAddr) → TakesIn (new_inbox roster) (new_inbox roster)
-looks_at_nothing roster = record { arrivals = []; between = new_inbox roster; came = refl; then_error = refl; waits = λ error is. refl }
 
 abbrev two_members : SocketAddr → SocketAddr → UdpView
 two_members one other = new_wire (one ∷ other ∷ [])
 
 -- one byte to the second of two members is passed to the system for its address
 one_byte_goes : (one other : SocketAddr) → SendsOne (bytes_to 1 (7 ∷ [])) false (two_members one other) (record (two_members one other) { went = post other (7 ∷ []) ∷ [] })
-one_byte_goes one other = record { takes = looks_at_nothing (one ∷ other ∷ []); counts = inl refl; stranger = λ few. absurd (omega (arith, few)) }
+one_byte_goes one other = record { takes = looks_at_nothing (one ∷ other ∷ []); counts = inl refl; answers = (None, refl, refl, refl); stranger = λ few. absurd (omega (arith, few)); hides_none = λ answered had. had }
+
+-- a send that no call of the system failed doesn't fail
+not_failed_by_itself : (address : SocketAddr) (new : UdpView) → new.refused ≡ [] → AnswersSend (Some address) (bytes_to 1 (7 ∷ [])) true (new_wire []) new → ⊥
+not_failed_by_itself address new none (None, same, fails, is) = cc fails
+not_failed_by_itself address new none (Some error, same, fails, is) = cc (sym none ∙ same)
+
+-- and one that failed by a call of the system does
+not_hidden : (address : SocketAddr) (new : UdpView) → new.refused ≡ None ∷ [] → AnswersSend (Some address) (bytes_to 1 (7 ∷ [])) false (new_wire []) new → ⊥
+not_hidden address new one (None, same, fails, is) = cc (sym one ∙ same)
+not_hidden address new one (Some None, same, fails, is) = cc fails
+not_hidden address new one (Some (Some kind), same, fails, is) = cc (sym one ∙ same)
+
+-- a part of what was to go is a failure, and all of it is none
+a_part_is_a_failure : send_error 5 (Ok 4) ≡ Some None
+a_part_is_a_failure = refl
+
+all_is_none : send_error 5 (Ok 5) ≡ None
+all_is_none = refl
 
 -- of what went the first byte, and of nothing 0
 abbrev first_byte : List Post → ℕ
 first_byte [] = 0
 first_byte (post ∷ more) = get_or post.bytes 0 0
 
-what_went : (one other : SocketAddr) (new : UdpView) → CountsSend false (posted (bytes_to 1 (7 ∷ [])) (two_members one other)) new → new.went ≡ post other (7 ∷ []) ∷ []
+what_went : (one other : SocketAddr) (new : UdpView) → CountsSend false (with_refused new.refused (posted (bytes_to 1 (7 ∷ [])) (two_members one other))) new → new.went ≡ post other (7 ∷ []) ∷ []
 what_went one other new (inl is) = ap (λ (w : UdpView). w.went) is
 what_went one other new (inr (kind, is)) = ap (λ (w : UdpView). w.went) is
 

@@ -1,5 +1,5 @@
 -- Which answers of the system are loss and no failure.
-use Rattle.std.specs.Prelude.{◌≡◌, ℤ, pos, if◌then◌else◌, Bool, List, [], ◌∷◌, Option, Some, None}
+use Rattle.std.specs.Prelude.{◌≡◌, ◌==◌, ℕ, ℤ, pos, if◌then◌else◌, Bool, List, [], ◌∷◌, ◌++◌, Option, Some, None, Result, Ok, Err}
 use Rattle.std.specs.List.{list_any}
 use Rattle.std.specs.IoError.{error_kind, raw_os_error}
 use Rattle.std.specs.Ordering.{int_eq}
@@ -37,6 +37,24 @@ loss_by _ number = loss_by_number number
 
 abbrev pub loss_of : Error → Option Loss
 loss_of e = loss_by (error_kind e) (raw_os_error e)
+
+-- What an error of a receive tells: nothing if it says that no datagram is there, and else a loss of some kind, or that the socket failed.
+abbrev pub error_by : ErrorKind → Option Loss → Option (Option Loss)
+error_by WouldBlock loss = None
+error_by _ loss = Some loss
+
+abbrev pub error_of : Error → Option (Option Loss)
+error_of e = error_by (error_kind e) (loss_of e)
+
+-- What the system's answer to a send of so many bytes tells: nothing if all went, a failure if only a part did, and else a loss of some kind, or a failure.
+abbrev pub send_error : ℕ → Result ℕ Error → Option (Option Loss)
+send_error length (Ok count) = if count == length then None else Some None
+send_error length (Err e) = Some (loss_of e)
+
+-- these errors, and behind them this one, if there is one
+abbrev pub with_error : Option (Option Loss) → List (Option Loss) → List (Option Loss)
+with_error None errors = errors
+with_error (Some error) errors = errors ++ error ∷ []
 
 -- the error tells a loss of some kind
 abbrev pub IsLoss : Error → Type 0

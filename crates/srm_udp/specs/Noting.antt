@@ -1,9 +1,25 @@
--- What contracts see of a list that isn't stored.
-use Rattle.std.specs.Prelude.{List, [], ◌∷◌, ◌++◌}
-use Rattle.srm_udp.specs.declared.noted.Last.{Last}
-use Rattle.srm_udp.specs.declared.noted.Last.TheVariants.{Nothing, Appended}
+-- What contracts see of lists that aren't stored.
+use Rattle.std.specs.Prelude.{ℕ, List, [], ◌∷◌, ◌++◌, Option}
+use Rattle.srm_wire.specs.declared.loss.Loss.{Loss}
+use Rattle.srm_udp.specs.Posts.{Post, post}
+use Rattle.srm_udp.specs.declared.outlet.posts.Last.{Last}
+use Rattle.srm_udp.specs.declared.outlet.posts.Last.TheVariants.{Nothing, Posted}
+use Rattle.srm_udp.specs.declared.outlet.posts.LastByte.{LastByte}
+use Rattle.srm_udp.specs.declared.outlet.posts.LastByte.TheVariants.{Nothing as NoByte, Appended}
+use Rattle.srm_udp.specs.declared.outlet.errors.LastError.{LastError}
+use Rattle.srm_udp.specs.declared.outlet.errors.LastError.TheVariants.{Nothing as NoError, Returned}
 
--- the list before the last item, and then this item
-abbrev pub up_to_last : {T : Type 0} → Last T → List T
+-- the bytes before the last one, and then this byte
+abbrev pub up_to_last_byte : LastByte → List ℕ
+up_to_last_byte NoByte = []
+up_to_last_byte (Appended before byte) = before.value ++ byte.value ∷ []
+
+-- the list before the last datagram, and then this one with its address
+abbrev pub up_to_last : Last → List Post
 up_to_last Nothing = []
-up_to_last (Appended before last) = before.value ++ last.value ∷ []
+up_to_last (Posted before address bytes) = before.value ++ post address.value bytes.value ∷ []
+
+-- the list before the last error, and then this one
+abbrev pub up_to_last_error : LastError → List (Option Loss)
+up_to_last_error NoError = []
+up_to_last_error (Returned before error) = before.value ++ error.value ∷ []

@@ -1,6 +1,6 @@
 //! Datagrams that came and wait to be received.
 
-ghost use Rattle.std.specs.Prelude.{◌≡◌, ◌≤◌, ◌+◌, ◌-◌, ◌∷◌, ◌++◌, [], length, drop, vec_len, vec_capacity, IfOk, IfSome, MatchBool};
+ghost use Rattle.std.specs.Prelude.{◌≡◌, ◌≤◌, ◌+◌, ◌-◌, ◌∷◌, ◌++◌, [], length, drop, vec_len, vec_capacity, IfOk, IfSome, IsTrue, MatchBool};
 ghost use Rattle.srm_udp.specs.Waiting.{IsFull, Takes};
 
 use std::alloc::{AllocError, Global};
@@ -52,7 +52,9 @@ impl Backlog {
     }
 
     /// Whether nothing waits.
-    pub(crate) fn is_empty(&self) -> bool {
+    pub(crate) fn is_empty(&self) -> bool
+        ensures { IsTrue result → self.now ≡ [] }
+    {
         self.lengths.is_empty()
     }
 
@@ -84,22 +86,11 @@ impl Backlog {
         let count = length.min(buffer.len());
         buffer[..count].copy_from_slice(&self.bytes[self.taken..self.taken + count]);
         self.taken += length;
-        self.start_over_if_empty();
         Some(count)
-    }
-
-    // An empty queue begins with its first byte again, so that a member that keeps up touches little memory.
-    fn start_over_if_empty(&mut self)
-        ensures { self.new ≡ self.old }
-    {
-        if self.lengths.is_empty() {
-            self.bytes.clear();
-            self.taken = 0;
-        }
     }
 }
 
-// Gives back the bytes that were taken, if these are many and so many more have no place behind the rest. Whether they have one now.
+// Gives back the bytes that were taken, if nothing else is there, or these are many and so many more have no place behind the rest. Returns whether they have one now.
 fn make_room(bytes: &mut Vec<u8>, taken: &mut usize, more: usize) -> bool
     requires { taken.old ≤ vec_len bytes.old }
     ensures same { drop taken.new bytes.new.items ≡ drop taken.old bytes.old.items }
@@ -107,6 +98,12 @@ fn make_room(bytes: &mut Vec<u8>, taken: &mut usize, more: usize) -> bool
     ensures capacity { vec_capacity bytes.old ≤ vec_capacity bytes.new }
     ensures room { MatchBool result (vec_len bytes.new + more ≤ 4194304) (3932160 ≤ vec_len bytes.old - taken.old + more) }
 {
+    // An empty queue begins with its first byte again, so that a member that keeps up touches little memory.
+    if *taken == bytes.len() {
+        bytes.clear();
+        *taken = 0;
+        return more <= BYTES;
+    }
     if more <= BYTES && bytes.len() <= BYTES - more {
         return true;
     }

@@ -76,10 +76,8 @@ impl FirstFailure {
     }
 
     /// Notes what the system answered to a send, if that is the first failure.
-    pub(crate) fn note_send(&self, to: Member, answer: &io::Result<usize>) {
-        if let Err(error) = answer {
-            self.note(u64::from(to.number()) + SEND, error);
-        }
+    pub(crate) fn note_send(&self, to: Member, error: &io::Error) {
+        self.note(u64::from(to.number()) + SEND, error);
     }
 
     // A loss is no failure.

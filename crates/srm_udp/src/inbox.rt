@@ -1,19 +1,16 @@
 //! What came to a socket and waits to be received.
 
-ghost use Rattle.std.specs.Prelude.{◌≡◌, ◌↔◌, ◌<◌, ◌≤◌, true, length, is_some, slice_get, take, IfOk, IfSome, IsTrue, MatchResult};
-ghost use Rattle.srm_udp.specs.Inboxes.{Arrives, GivesNext, IsFromSender, IsStrange, NextFits, TakesIn, TakesOne, heard, new_inbox};
+ghost use Rattle.std.specs.Prelude.{◌≡◌, [], None, true, is_some, IfOk, IsTrue, MatchBool};
+ghost use Rattle.srm_udp.specs.Inboxes.{BringsOne, GivesNext, IsAdmitted, IsDropped, Keeps, NextFits, TakesIn, TakesOne, new_inbox};
 
 use crate::backlog::Backlog;
 use crate::dropped::Dropped;
 use crate::first_failure::FirstFailure;
-use crate::intake::Intake;
-use crate::loss::loss_of;
-use crate::outlet::Outlet;
-use crate::roster::{is_address_of, is_of_roster, named_sender};
+use crate::loss::error_of;
+use crate::outlet::{Errors, Outlet, Posts};
+use crate::roster::{SENDER_PLACE, is_from_sender, is_of_roster};
 use srm_wire::Loss;
 use std::alloc::{AllocError, Global};
-use std::io;
-use std::io::ErrorKind;
 use std::marker::Model;
 use std::net::SocketAddr;
 use std::sync::Arc;
@@ -21,16 +18,20 @@ use std::sync::Arc;
 /// Datagrams that are taken in at once, at most.
 const TAKEN_AT_ONCE: usize = 256;
 
-/// What came to a socket and waits to be received, less what is dropped. Contracts see all that came. It allocates only in `new`.
+/// What came to a socket and waits to be received, less what is dropped. Contracts see all that came, and each error that the system returned. It allocates only in `new`.
 #[derive(Drop)]
 pub(crate) struct Inbox {
     roster: Vec<SocketAddr>,
     only_roster: bool,
-    intake: Intake,
+    // For contracts alone.
+    came: Posts,
+    errors: Errors,
     backlog: Backlog,
     dropped: Dropped,
     // The error that the system told on receiving and that no receive answered yet: the kind of a loss, or None where the socket failed.
     pending: Option<Option<Loss>>,
+    // Whether the socket was found empty, and the system told of nothing since.
+    drained: bool,
     failure: Arc<FirstFailure, Global>,
 }
 
@@ -44,9 +45,11 @@ pub(crate) enum Next {
 
 // What one call of the system tells.
 enum Told {
-    Datagram,
+    // A datagram of so many bytes, which is to be heard.
+    Datagram(usize),
+    Dropped,
     Nothing,
-    Failed,
+    Failed(Option<Loss>),
 }
 
 impl Model for Inbox {
@@ -54,7 +57,7 @@ impl Model for Inbox {
 
     ghost Value = { InboxView };
 
-    ghost view = { λ b. record { roster = b.roster.items; only_roster = b.only_roster; came = b.intake; waiting = b.backlog; dropped = b.dropped; pending = b.pending } };
+    ghost view = { λ b. record { roster = b.roster.items; only_roster = b.only_roster; came = b.came; errors = b.errors; waiting = b.backlog; dropped = b.dropped; pending = b.pending } };
 }
 
 impl Inbox {
@@ -69,10 +72,12 @@ impl Inbox {
         Ok(Inbox {
             roster,
             only_roster: false,
-            intake: Intake::new(),
+            came: Posts::new(),
+            errors: Errors::new(),
             backlog: Backlog::new(alloc)?,
             dropped: Dropped::none(),
             pending: None,
+            drained: false,
             failure,
         })
     }
@@ -84,12 +89,11 @@ impl Inbox {
         self.only_roster = true;
     }
 
-    /// Returns the address of a member, if it has one.
-    pub(crate) fn address(&self, member: usize) -> Option<SocketAddr>
-        ensures value { result ≡ slice_get self.now.roster member }
-        ensures place { IfSome result (λ address. member < length self.now.roster) }
+    /// Returns the members' addresses, by number.
+    pub(crate) fn roster(&self) -> &[SocketAddr]
+        ensures { result.now ≡ self.now.roster }
     {
-        self.roster.get(member).copied()
+        self.roster.as_slice()
     }
 
     /// Returns how many datagrams were dropped so far.
@@ -99,9 +103,23 @@ impl Inbox {
         self.dropped
     }
 
-    /// Returns whether neither a datagram nor an error waits.
-    pub(crate) fn is_empty(&self) -> bool {
-        self.backlog.is_empty() && self.pending.is_none()
+    /// Returns whether no datagram waits.
+    pub(crate) fn is_empty(&self) -> bool
+        ensures { IsTrue result → self.now.waiting ≡ [] }
+    {
+        self.backlog.is_empty()
+    }
+
+    /// Returns whether the socket was found empty, and the system told of nothing since. While an error waits it doesn't count as empty.
+    pub(crate) fn is_drained(&self) -> bool {
+        self.drained
+    }
+
+    /// The system tells of something in the socket.
+    pub(crate) fn fill(&mut self)
+        ensures { self.new ≡ self.old }
+    {
+        self.drained = false;
     }
 
     // Whether an error waits.
@@ -111,81 +129,93 @@ impl Inbox {
         self.pending.is_some()
     }
 
-    /// Takes in what lies in the socket, up to 256 datagrams, each by way of `room`, and returns whether nothing is left there. It stops at an error, and takes nothing while one is pending.
-    #[tactic(auto, using(crate::proofs::Arriving::arrived_none, crate::proofs::Arriving::arrived_more, crate::proofs::Arriving::takes_nothing, crate::proofs::Arriving::takes_all, crate::proofs::Arriving::takes_error))]
-    pub(crate) fn take_in(&mut self, socket: &Outlet, room: &mut [u8]) -> bool
-        ensures { TakesIn self.old self.new }
+    /// Takes in what lies in the socket, up to 256 datagrams, each by way of `room`. It stops at an error, and takes nothing while one is pending.
+    #[tactic(auto, using(crate::proofs::Arriving::arrived_none, crate::proofs::Arriving::arrived_more, crate::proofs::Arriving::kept_one, crate::proofs::Arriving::dropped_one, crate::proofs::Arriving::takes_nothing, crate::proofs::Arriving::takes_all, crate::proofs::Arriving::takes_error))]
+    pub(crate) fn take_in(&mut self, socket: &Outlet, room: &mut [u8])
+        ensures { TakesIn 256 self.old self.new }
     {
         if self.has_error() {
-            return false;
+            return;
         }
-        for _ in 0..TAKEN_AT_ONCE {
+        // Contracts count what it takes in.
+        for taken in 0..TAKEN_AT_ONCE {
             match self.take_one(socket, room) {
-                Told::Datagram => {}
-                Told::Nothing => return true,
-                Told::Failed => return false,
+                Told::Datagram(count) => self.keep(&room[..count]),
+                Told::Dropped => {}
+                Told::Nothing => return,
+                Told::Failed(error) => {
+                    self.pending = Some(error);
+                    return;
+                }
             }
+        }
+    }
+
+    // Receives by one call of the system. Drops and counts what isn't to be heard.
+    fn take_one(&mut self, socket: &Outlet, room: &mut [u8]) -> Told
+        ensures { TakesOne room.new result self.old self.new }
+    {
+        self.drained = false;
+        match socket.receive(room, &mut self.came, &mut self.errors) {
+            Ok((count, origin)) => {
+                if self.admit(origin, &room[..count]) {
+                    Told::Datagram(count)
+                } else {
+                    Told::Dropped
+                }
+            }
+            Err(error) => match error_of(&error) {
+                None => {
+                    self.drained = true;
+                    Told::Nothing
+                }
+                Some(told) => {
+                    self.failure.note_receive(&error);
+                    Told::Failed(told)
+                }
+            },
+        }
+    }
+
+    // Returns whether a datagram is to be heard. If not, it is counted.
+    fn admit(&mut self, origin: SocketAddr, datagram: &[u8]) -> bool
+        ensures { MatchBool result (IsAdmitted (record { origin = origin; bytes = datagram.now }) self.old × (self.new ≡ self.old)) (IsDropped (record { origin = origin; bytes = datagram.now }) self.old self.new) }
+    {
+        if !self.only_roster || is_from_sender(self.roster.as_slice(), origin, datagram) {
+            return true;
+        }
+        if is_of_roster(self.roster.as_slice(), origin) {
+            self.dropped.count_misnamed();
+        } else {
+            self.dropped.count_stranger();
         }
         false
     }
 
-    // Receives by one call of the system.
-    fn hear(&mut self, socket: &Outlet, room: &mut [u8]) -> io::Result<(usize, SocketAddr)>
-        ensures { MatchResult result (λ got. (got.0 ≤ length room.new) × (self.new ≡ heard (record { origin = got.1; bytes = take got.0 room.new }) self.old)) (λ _. self.new ≡ self.old) }
+    // Appends a datagram to those that wait, or drops it where there is no room.
+    fn keep(&mut self, datagram: &[u8])
+        ensures { Keeps datagram.now self.old self.new }
     {
-        match self.intake.take(socket, room) {
-            Ok(got) => Ok(got),
-            Err(error) => Err(error),
-        }
-    }
-
-    // Takes in what one call of the system tells.
-    fn take_one(&mut self, socket: &Outlet, room: &mut [u8]) -> Told
-        ensures { TakesOne result self.old self.new }
-    {
-        match self.hear(socket, room) {
-            Ok((count, origin)) => {
-                self.admit(origin, &room[..count]);
-                Told::Datagram
-            }
-            Err(error) if error.kind() == ErrorKind::WouldBlock => Told::Nothing,
-            Err(error) => {
-                self.failure.note_receive(&error);
-                self.pending = Some(loss_of(&error));
-                Told::Failed
-            }
-        }
-    }
-
-    // Appends a datagram to those that wait, or drops it.
-    fn admit(&mut self, origin: SocketAddr, datagram: &[u8])
-        ensures { Arrives (record { origin = origin; bytes = datagram.now }) self.old self.new }
-    {
-        if self.is_strange(origin) {
-            self.dropped.count_stranger();
-        } else if !self.is_from_sender(origin, datagram) {
-            self.dropped.count_misnamed();
-        } else if !self.backlog.push(datagram) {
+        if !self.backlog.push(datagram) {
             self.dropped.count_overflowed();
         }
     }
 
-    // Whether what comes from there is to be dropped.
-    fn is_strange(&self, origin: SocketAddr) -> bool
-        ensures { IsTrue result ↔ IsStrange origin self.now }
+    /// Moves the next datagram into a buffer, cut to it. An error comes before all datagrams. Where none waits, the next one that is to be heard is received right into
+    /// the buffer, if this has room for its sender: of up to 256.
+    #[tactic(auto, using(crate::proofs::Arriving::brings_waiting_one))]
+    pub(crate) fn next(&mut self, socket: &Outlet, buffer: &mut [u8]) -> Next
+        ensures brings { BringsOne buffer.new result self.old self.new }
+        ensures fits { NextFits buffer.new result }
     {
-        self.only_roster && !is_of_roster(self.roster.as_slice(), origin)
+        if self.has_error() || !self.is_empty() || buffer.len() <= SENDER_PLACE {
+            return self.next_waiting(buffer);
+        }
+        self.receive(socket, buffer)
     }
 
-    // Whether what comes from there may be passed on by the sender that it names.
-    fn is_from_sender(&self, origin: SocketAddr, datagram: &[u8]) -> bool
-        ensures { IsTrue result ↔ IsFromSender (record { origin = origin; bytes = datagram.now }) self.now }
-    {
-        !self.only_roster || is_address_of(self.roster.as_slice(), named_sender(datagram), origin)
-    }
-
-    /// Moves the next datagram into a buffer, cut to it. An error comes before all datagrams.
-    pub(crate) fn next(&mut self, buffer: &mut [u8]) -> Next
+    // Moves the datagram that waits longest into a buffer, or returns the error that is pending.
+    fn next_waiting(&mut self, buffer: &mut [u8]) -> Next
         ensures gives { GivesNext buffer.new result self.old self.new }
         ensures fits { NextFits buffer.new result }
     {
@@ -193,5 +223,25 @@ impl Inbox {
             Some(error) => Next::Failed(error),
             None => Next::Datagram(self.backlog.pop(buffer)),
         }
+    }
+
+    #[tactic(auto, using(crate::proofs::Arriving::heard_none, crate::proofs::Arriving::heard_dropped, crate::proofs::Arriving::brings_datagram, crate::proofs::Arriving::brings_nothing, crate::proofs::Arriving::brings_error))]
+    // Receives the next datagram that is to be heard right into a buffer.
+    fn receive(&mut self, socket: &Outlet, buffer: &mut [u8]) -> Next
+        requires no_error { self.old.pending ≡ None }
+        requires empty { self.old.waiting ≡ [] }
+        ensures brings { BringsOne buffer.new result self.old self.new }
+        ensures fits { NextFits buffer.new result }
+    {
+        // Contracts count what it takes in.
+        for taken in 0..TAKEN_AT_ONCE {
+            match self.take_one(socket, buffer) {
+                Told::Datagram(count) => return Next::Datagram(Some(count)),
+                Told::Dropped => {}
+                Told::Nothing => return Next::Datagram(None),
+                Told::Failed(error) => return Next::Failed(error),
+            }
+        }
+        Next::Datagram(None)
     }
 }

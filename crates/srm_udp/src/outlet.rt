@@ -1,59 +1,79 @@
-//! A socket, and what was passed to the system by it.
+//! A socket, and what passed by it between a wire and the system.
 
-ghost use Rattle.std.specs.Prelude.{◌≡◌, ◌≤◌, ◌++◌, [], ◌∷◌, length, IfOk};
+ghost use Rattle.std.specs.Prelude.{◌≡◌, ◌≤◌, ◌++◌, [], ◌∷◌, length, take, MatchResult};
+ghost use Rattle.srm_udp.specs.Losses.{error_of, send_error, with_error};
 ghost use Rattle.srm_udp.specs.Posts.{post};
 
-use crate::noted::Noted;
+mod errors;
+mod posts;
+
+pub(crate) use errors::Errors;
 use mio::net::UdpSocket;
+pub(crate) use posts::Posts;
 use std::io;
 use std::marker::Model;
 use std::net::SocketAddr;
-use std::snapshot::Snapshot;
 
-/// A bound socket. Contracts see the bytes that each send passed to the system, and for which address, oldest first. There is no other way to the system but
-/// [`send_to`](Outlet::send_to), so a wire can't tell of a send that it didn't make.
+/// A bound socket. Contracts see the bytes that each send passed to the system, and for which address, and the errors that the system answered, oldest first. There is no
+/// other way to the system but [`send_to`](Outlet::send_to), so a wire can't tell of a send that it didn't make.
 #[derive(Drop)]
 pub(crate) struct Outlet {
     socket: UdpSocket,
     // For contracts alone.
-    went: Noted<Letter>,
+    went: Posts,
+    refused: Errors,
 }
 
 impl Model for Outlet {
-    ghost use Rattle.std.specs.Prelude.{List};
-    ghost use Rattle.srm_udp.specs.Posts.{Post};
+    ghost use Rattle.srm_udp.specs.Posts.{OutletView};
 
-    ghost Value = { List Post };
+    ghost Value = { OutletView };
 
-    ghost view = { λ outlet. outlet.went };
+    ghost view = { λ outlet. record { went = outlet.went; refused = outlet.refused } };
 }
 
 impl Outlet {
     /// Makes the outlet of a bound socket.
     pub(crate) fn new(socket: UdpSocket) -> Outlet
-        ensures { result ≡ [] }
+        ensures { result ≡ record { went = []; refused = [] } }
     {
         Outlet {
             socket,
-            went: Noted::new(),
+            went: Posts::new(),
+            refused: Errors::new(),
         }
     }
 
     /// Passes bytes to the system, for this address, and returns what it answers.
     pub(crate) fn send_to(&mut self, datagram: &[u8], address: SocketAddr) -> io::Result<usize>
-        ensures { self.new ≡ self.old ++ post address datagram.now ∷ [] }
+        ensures { self.new ≡ record { went = self.old.went ++ post address datagram.now ∷ []; refused = with_error (send_error (length datagram.now) result) self.old.refused } }
     {
-        self.went.append(Letter::of(address, datagram));
-        self.socket.send_to(datagram, address)
+        self.went.append(address, datagram);
+        let answer = self.socket.send_to(datagram, address);
+        self.refused.note_send(datagram.len(), &answer);
+        answer
     }
 
-    /// Receives a datagram from the system, which tells where it comes from.
-    pub(crate) fn recv_from(&self, room: &mut [u8]) -> io::Result<(usize, SocketAddr)>
-        ensures { IfOk result (λ r. r.0 ≤ length room.new) }
+    /// Receives a datagram by one call of the system, and returns what it answers: how many bytes it put into the room, and where they come from, or its error. What came is
+    /// noted for contracts, and so is an error, unless it says that nothing is there.
+    pub(crate) fn receive(
+        &self,
+        room: &mut [u8],
+        came: &mut Posts,
+        errors: &mut Errors,
+    ) -> io::Result<(usize, SocketAddr)>
+        ensures datagram { MatchResult result (λ got. (got.0 ≤ length room.new) × (came.new ≡ came.old ++ post got.1 (take got.0 room.new) ∷ [])) (λ _. came.new ≡ came.old) }
+        ensures error { MatchResult result (λ _. errors.new ≡ errors.old) (λ error. errors.new ≡ with_error (error_of error) errors.old) }
     {
         match self.socket.recv_from(room) {
-            Ok((count, origin)) => Ok((count, origin)),
-            Err(error) => Err(error),
+            Ok((count, origin)) => {
+                came.append(origin, &room[..count]);
+                Ok((count, origin))
+            }
+            Err(error) => {
+                errors.note_receive(&error);
+                Err(error)
+            }
         }
     }
 
@@ -61,44 +81,4 @@ impl Outlet {
     pub(crate) fn local_addr(&self) -> io::Result<SocketAddr> {
         self.socket.local_addr()
     }
-}
-
-/// An address and bytes, for contracts alone.
-#[derive(Drop)]
-pub(crate) struct Letter {
-    address: Snapshot<SocketAddr>,
-    bytes: Snapshot<Noted<u8>>,
-}
-
-impl Model for Letter {
-    ghost use Rattle.srm_udp.specs.Posts.{Post};
-
-    ghost Value = { Post };
-
-    ghost view = { λ letter. record { address = letter.address.value; bytes = letter.bytes.value } };
-}
-
-impl Letter {
-    /// Notes bytes and their address.
-    pub(crate) fn of(address: SocketAddr, bytes: &[u8]) -> Letter
-        ensures { result ≡ post address bytes.now }
-    {
-        let noted = noted(bytes);
-        Letter {
-            address: Snapshot::of(&address),
-            bytes: Snapshot::of(&noted),
-        }
-    }
-}
-
-// Notes bytes, one after another. Nothing of that is left when it runs.
-#[tactic(auto, using(crate::proofs::Posting::noted_more, crate::proofs::Posting::noted_all))]
-fn noted(bytes: &[u8]) -> Noted<u8>
-    ensures { result ≡ bytes.now }
-{
-    let mut noted = Noted::new();
-    for byte in bytes {
-        noted.append(*byte);
-    }
-    noted
 }

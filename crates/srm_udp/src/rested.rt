@@ -1,10 +1,8 @@
 //! A wire that rests while datagrams come close together.
 
-ghost use Rattle.std.specs.Prelude.{◌≡◌, ℕ, ◌-◌, List};
-ghost use Rattle.srm_wire.specs.Wires.{answered};
-ghost use Rattle.srm_udp.specs.Resting.{came_with, new_rested, rest_of};
+ghost use Rattle.std.specs.Prelude.{◌≡◌, ◌-◌};
+ghost use Rattle.srm_udp.specs.Resting.{new_rested, rest_of};
 
-use crate::loss::one_more;
 use srm_names::Member;
 use srm_wire::{Wire, WireCounts, WireFault};
 use std::marker::Model;
@@ -79,9 +77,11 @@ impl<R: Clock + Drop, X: Wire + Drop> Wire for Rested<R, X> {
     }
 
     fn receive(&mut self, buffer: &mut [u8]) -> Result<Option<usize>, WireFault> {
-        let answer = self.wire.receive(buffer);
-        self.came = came_after(&answer, self.came);
-        answer
+        let answer = self.wire.receive(buffer)?;
+        if answer.is_some() {
+            self.came = self.came.saturating_add(1);
+        }
+        Ok(answer)
     }
 
     #[tactic(auto, using(crate::proofs::Resting::pauses_nothing, crate::proofs::Resting::pauses_rest))]
@@ -101,15 +101,5 @@ impl<R: Clock + Drop, X: Wire + Drop> Wire for Rested<R, X> {
 
     fn counts(&self) -> WireCounts {
         self.wire.counts()
-    }
-}
-
-// Returns how many came by now, if so many came before this answer.
-fn came_after(answer: &Result<Option<usize>, WireFault>, came: u64) -> u64
-    ensures { (buffer : List ℕ) → result ≡ came_with (answered buffer answer.now) came }
-{
-    match answer {
-        Ok(Some(_)) => one_more(came),
-        Ok(None) | Err(_) => came,
     }
 }

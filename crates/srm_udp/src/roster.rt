@@ -1,7 +1,7 @@
 //! Which addresses are a member's.
 
 ghost use Rattle.std.specs.Prelude.{◌≡◌, ◌↔◌, IsTrue};
-ghost use Rattle.srm_udp.specs.Inboxes.{IsAddressOf, IsOfRoster, SamePlace, named_sender};
+ghost use Rattle.srm_udp.specs.Inboxes.{IsFromMember, IsOfRoster, SamePlace, named_sender};
 
 use std::net::SocketAddr;
 
@@ -23,10 +23,10 @@ fn is_same_place(one: SocketAddr, other: SocketAddr) -> bool
 }
 
 /// Bytes before the sender of a datagram.
-const SENDER_PLACE: usize = 8;
+pub(crate) const SENDER_PLACE: usize = 8;
 
-/// Returns the number of the member that bytes name as their sender, if they begin as a datagram does and are long enough.
-pub(crate) fn named_sender(bytes: &[u8]) -> Option<u8>
+// Returns the number of the member that bytes name as their sender, if they begin as a datagram does and are long enough.
+fn named_sender(bytes: &[u8]) -> Option<u8>
     ensures { result ≡ named_sender bytes.now }
 {
     match bytes {
@@ -35,13 +35,13 @@ pub(crate) fn named_sender(bytes: &[u8]) -> Option<u8>
     }
 }
 
-#[tactic(auto, using(crate::proofs::Naming::not_at, crate::proofs::Naming::no_member))]
-/// Returns whether the sender, if there is one, is a member of this roster and has the origin's address there.
-pub(crate) fn is_address_of(roster: &[SocketAddr], sender: Option<u8>, origin: SocketAddr) -> bool
-    ensures { IsTrue result ↔ IsAddressOf roster.now sender origin }
+#[tactic(auto, using(crate::proofs::Naming::sender_is_at, crate::proofs::Naming::sender_has_none, crate::proofs::Naming::unnamed))]
+/// Returns whether bytes come from the address of the member that they name as their sender, or, if they name none, from that of any member.
+pub(crate) fn is_from_sender(roster: &[SocketAddr], origin: SocketAddr, bytes: &[u8]) -> bool
+    ensures { IsTrue result ↔ IsFromMember roster.now origin bytes.now }
 {
-    let Some(sender) = sender else {
-        return true;
+    let Some(sender) = named_sender(bytes) else {
+        return is_of_roster(roster, origin);
     };
     match roster.get(usize::from(sender)) {
         Some(address) => is_same_place(*address, origin),

@@ -1,10 +1,11 @@
 //! The system's monotonic clock.
 
-ghost use Rattle.std.specs.Prelude.{◌≡◌, ◌≤◌, None, IfOk, MatchOption};
+ghost use Rattle.std.specs.Prelude.{◌≡◌, ◌≤◌, ◌-◌, ◌/◌, ◌^◌, min, None, IfOk, MatchOption};
+ghost use Rattle.std.specs.Duration.{as_nanos};
 
 use srm_wire::Clock;
 use std::marker::Model;
-use std::time::Instant;
+use std::time::{Duration, Instant};
 use std::{io, time};
 
 /// The microseconds since this clock was first read, by the system's monotonic clock. So the first reading is 0. They never fall.
@@ -39,7 +40,7 @@ impl<R: time::Clock + Drop> SystemClock<R> {
     // The microseconds since the clock started, or 0 if the system can't read its clock.
     fn elapsed(&self) -> u64 {
         match self.start.elapsed(&self.rt) {
-            Ok(time) => u64::try_from(time.as_micros()).unwrap_or(u64::MAX),
+            Ok(time) => micros_of(time),
             Err(_) => 0,
         }
     }
@@ -79,4 +80,11 @@ impl<R: time::Clock + Drop> Clock for SystemClock<R> {
         self.last = Some(told);
         told
     }
+}
+
+// Returns the microseconds of a duration, rounded down, and at most 2^64 - 1.
+fn micros_of(time: Duration) -> u64
+    ensures { result ≡ min (as_nanos time / 1_000) (2 ^ 64 - 1) }
+{
+    u64::try_from(time.as_micros()).unwrap_or(u64::MAX)
 }

@@ -17,11 +17,11 @@ fn the_first_failure_is_noted(rt: HostRuntime) -> Result<(), Fail> {
     let (own, other) = (local(), SocketAddr::from((Ipv4Addr::LOCALHOST, 9)));
     let failure = FirstFailure::new(own, [own, other].to_vec(rt.alloc())?);
     let to = Member::new(1).ok_or("a member")?;
-    // What is lost is no failure, and a call that didn't fail is none either.
+    // What is lost is no failure.
     failure.note_receive(&io::Error::from_raw_os_error(111));
-    failure.note_send(to, &Ok(3));
+    failure.note_send(to, &io::Error::from_raw_os_error(113));
     assert_eq!(rt; failure.first(), None);
-    failure.note_send(to, &Err(io::Error::from_raw_os_error(22)));
+    failure.note_send(to, &io::Error::from_raw_os_error(22));
     failure.note_receive(&io::Error::from_raw_os_error(9));
     let sending = WireFailure::Send(other, ErrorKind::InvalidInput);
     assert_eq!(rt; failure.first(), Some(sending));

@@ -1,10 +1,10 @@
 //! A wire over UDP.
 
-ghost use Rattle.std.specs.Prelude.{◌≡◌, ◌<◌, ◌≤◌, [], Some, None, length, slice_get, true, is_err, is_none, vec_len, IfOk, IfSome, IsErr, IsErrAnd};
+ghost use Rattle.std.specs.Prelude.{◌≡◌, ◌<◌, ◌≤◌, [], Some, None, length, true, is_err, is_none, vec_len, IfOk, IfSome, IsErrAnd};
 ghost use Rattle.std.specs.IoError.{error_kind};
 ghost use Rattle.srm_wire.specs.Wires.{CountsIf, TellsMore, answered, bytes_to, sent_by};
-ghost use Rattle.srm_udp.specs.Inboxes.{GivesNext, NextFits, TakesIn};
-ghost use Rattle.srm_udp.specs.Udp.{AnswersNext, CountsEach, CountsReceive, ReceivesNext, SendsOne, after_error, after_next, after_send, new_wire, one_more_failure, passed, posted, send_fails, with_inbox};
+ghost use Rattle.srm_udp.specs.Inboxes.{TakesIn};
+ghost use Rattle.srm_udp.specs.Udp.{BringsNext, CountsEach, CountsReceive, ReceivesNext, SendsOne, after_error, after_send, new_wire, one_more_failure, posted, send_fails, with_inbox, with_refused};
 
 use crate::dropped::Dropped;
 use crate::first_failure::FirstFailure;
@@ -12,6 +12,7 @@ use crate::inbox::{Inbox, Next};
 use crate::loss::loss_of;
 use crate::outlet::Outlet;
 use crate::room::ask_for_room;
+use crate::roster::SENDER_PLACE;
 use crate::wire_waker::WireWaker;
 use mio::net::UdpSocket;
 use mio::{Events, Interest, Poll, Token};
@@ -39,9 +40,9 @@ const CALLS: u8 = 16;
 /// A member's wire over UDP: a bound socket that never blocks but in [`pause`](UdpWire::pause), which another thread may end. It counts its failures, and by kind what the
 /// system says was lost.
 ///
-/// It asks the system for 4 MiB of receive buffer. Linux grants at most `net.core.rmem_max`. It moves what lies in the socket into its own queue as the
-/// node receives and between sends, so a burst isn't lost because the system's buffer is small. The queue has room for 32,768 datagrams and 3.75 to 4 MiB; what
-/// comes beyond is dropped and counted. All memory is allocated as the wire is made.
+/// It asks the system for 4 MiB of receive buffer. Linux grants at most `net.core.rmem_max`. At each sixteenth send or receive it moves what lies in the socket into its own
+/// queue, so a burst isn't lost because the system's buffer is small. The queue has room for 32,768 datagrams and 3.75 to 4 MiB; what comes beyond is dropped and
+/// counted. While nothing waits there, a datagram is received right into the buffer of [`receive`](UdpWire::receive). All memory is allocated as the wire is made.
 #[derive(Drop)]
 pub struct UdpWire {
     socket: Outlet,
@@ -53,8 +54,6 @@ pub struct UdpWire {
     poll: Poll,
     events: Events<Global>,
     waker: Arc<WireWaker, Global>,
-    // Whether the socket was found empty, and no pause found more since.
-    drained: bool,
     failures: u64,
     failure: Arc<FirstFailure, Global>,
     losses: Losses,
@@ -65,7 +64,7 @@ impl Model for UdpWire {
 
     ghost Value = { UdpView };
 
-    ghost view = { λ w. record { inbox = w.inbox; failures = w.failures; losses = w.losses; went = w.socket } };
+    ghost view = { λ w. record { inbox = w.inbox; failures = w.failures; losses = w.losses; went = w.socket.went; refused = w.socket.refused } };
 }
 
 impl UdpWire {
@@ -114,7 +113,6 @@ impl UdpWire {
             poll,
             events,
             waker,
-            drained: false,
             failures: 0,
             failure,
             losses: Losses::none(),
@@ -159,13 +157,13 @@ impl UdpWire {
 
     // Takes in what lies in the socket, if that is due or wasn't done for long.
     fn look(&mut self, is_due: bool)
-        ensures takes { TakesIn self.old.inbox self.new.inbox }
+        ensures takes { TakesIn 256 self.old.inbox self.new.inbox }
         ensures rest { self.new ≡ with_inbox self.new.inbox self.old }
     {
         self.calls = self.calls.saturating_add(1);
         if is_due || self.calls >= CALLS {
             self.calls = 0;
-            self.drained = self.inbox.take_in(&self.socket, self.room.as_mut_slice());
+            self.inbox.take_in(&self.socket, self.room.as_mut_slice());
         }
     }
 
@@ -185,6 +183,7 @@ impl UdpWire {
         ensures failures { CountsIf (is_err result) self.old.failures self.new.failures }
         ensures each { CountsEach result self.old self.new }
         ensures inbox { self.new.inbox ≡ self.old.inbox }
+        ensures refused { self.new.refused ≡ self.old.refused }
     {
         match loss {
             Some(loss) => {
@@ -196,90 +195,27 @@ impl UdpWire {
     }
 
     #[tactic(auto, using(crate::proofs::Counting::none_counted, crate::proofs::Counting::failure_counted))]
-    // Counts what the system answers to a send of so many bytes.
-    fn settle_send(&mut self, length: usize, answer: io::Result<usize>) -> Result<(), WireFault>
+    // Counts what the system answers to a send of so many bytes to a member.
+    fn settle_send(
+        &mut self,
+        to: Member,
+        length: usize,
+        answer: io::Result<usize>,
+    ) -> Result<(), WireFault>
         ensures one { self.new ≡ after_send length answer self.old }
         ensures failed { is_err result ≡ send_fails length answer }
         ensures failures { CountsIf (is_err result) self.old.failures self.new.failures }
         ensures each { CountsEach result self.old self.new }
         ensures inbox { self.new.inbox ≡ self.old.inbox }
+        ensures refused { self.new.refused ≡ self.old.refused }
     {
         match answer {
             Ok(count) if count == length => Ok(()),
             Ok(_) => Err(self.fail()),
-            Err(error) => self.count(loss_of(&error)),
-        }
-    }
-
-    // Passes bytes to the system.
-    fn pass(&mut self, address: SocketAddr, datagram: &[u8]) -> io::Result<usize>
-        ensures { self.new ≡ passed address datagram.now self.old }
-    {
-        self.socket.send_to(datagram, address)
-    }
-
-    #[tactic(auto, using(crate::proofs::Posting::passed_on))]
-    // Sends bytes to a member's address, and counts what the system answers.
-    fn send_to(&mut self, to: Member, address: SocketAddr, datagram: &[u8]) -> Result<(), WireFault>
-        ensures failures { CountsIf (is_err result) self.old.failures self.new.failures }
-        ensures each { CountsEach result (passed address datagram.now self.old) self.new }
-        ensures inbox { self.new.inbox ≡ self.old.inbox }
-    {
-        let answer = self.pass(address, datagram);
-        self.failure.note_send(to, &answer);
-        self.settle_send(datagram.len(), answer)
-    }
-
-    #[tactic(auto, using(crate::proofs::Counting::none_counted))]
-    // Returns what comes next, and counts an error.
-    fn settle_next(&mut self, next: Next) -> Result<Option<usize>, WireFault>
-        ensures one { self.new ≡ after_next next self.old }
-        ensures answer { AnswersNext next result }
-        ensures came { IfOk result (λ some. IfSome some (λ count. next ≡ Next.Datagram (Some count))) }
-        ensures failures { CountsIf (is_err result) self.old.failures self.new.failures }
-        ensures each { CountsReceive result self.old self.new }
-    {
-        match next {
-            Next::Datagram(count) => Ok(count),
-            Next::Failed(error) => {
-                self.count(error)?;
-                Ok(None)
+            Err(error) => {
+                self.failure.note_send(to, &error);
+                self.count(loss_of(&error))
             }
-        }
-    }
-
-    // Moves the next datagram into a buffer.
-    fn next(&mut self, buffer: &mut [u8]) -> Next
-        ensures gives { GivesNext buffer.new result self.old.inbox self.new.inbox }
-        ensures fits { NextFits buffer.new result }
-        ensures rest { self.new ≡ with_inbox self.new.inbox self.old }
-    {
-        self.inbox.next(buffer)
-    }
-}
-
-impl UdpWire {
-    // Returns the address of a member, if it has one.
-    fn address(&self, to: Member) -> Option<SocketAddr>
-        ensures value { result ≡ slice_get self.now.inbox.roster to }
-        ensures place { IfSome result (λ address. to < length self.now.inbox.roster) }
-    {
-        self.inbox.address(to.index())
-    }
-
-    #[tactic(auto, using(crate::proofs::Posting::posted_behind, crate::proofs::Posting::unposted))]
-    // Takes in what lies in the socket where that is due, and sends bytes to a member.
-    fn send_counted(&mut self, to: Member, datagram: &[u8]) -> Result<(), WireFault>
-        ensures failures { CountsIf (is_err result) self.old.failures self.new.failures }
-        ensures takes { TakesIn self.old.inbox self.new.inbox }
-        ensures each { CountsEach result (posted (bytes_to to datagram.now) self.old) self.new }
-        ensures stranger { length self.old.inbox.roster ≤ to → IsErr result }
-    {
-        let found = self.address(to);
-        self.look(false);
-        match found {
-            Some(address) => self.send_to(to, address, datagram),
-            None => Err(self.fail()),
         }
     }
 }
@@ -300,25 +236,32 @@ impl Wire for UdpWire {
 
     ghost pauses = { λ w micros h. h ≡ w };
 
-    #[tactic(auto, using(crate::proofs::Counting::sends_one))]
     /// Sends a datagram by one call of the system, without copying it: contracts see its bytes, and the address that they were for. What the system says was lost is counted by its kind, and is no error: a datagram of more
     /// than 65,507 bytes counts as [`Loss::TooLong`]. Fails, and counts a failure, if the member has no address, the system sends only a part, or its error is no
     /// loss. Before each sixteenth call it takes in what lies in the socket.
     fn send(&mut self, to: Member, datagram: &[u8]) -> Result<(), WireFault>
         ensures failures { CountsIf (is_err result) self.old.failures self.new.failures }
-        ensures each { CountsEach result (posted (bytes_to to datagram.now) self.old) self.new }
+        ensures each { CountsEach result (with_refused self.new.refused (posted (bytes_to to datagram.now) self.old)) self.new }
         ensures tells { TellsMore [] (sent_by to datagram.now result) None None }
         ensures sends { SendsOne (bytes_to to datagram.now) (is_err result) self.old self.new }
     {
-        self.send_counted(to, datagram)
+        let found = self.inbox.roster().get(to.index()).copied();
+        self.look(false);
+        let Some(address) = found else {
+            return Err(self.fail());
+        };
+        let answer = self.socket.send_to(datagram, address);
+        self.settle_send(to, datagram.len(), answer)
     }
 
-    #[tactic(auto, using(crate::proofs::Counting::receive_behind, crate::proofs::Counting::looked_on, crate::proofs::Counting::receives_next, crate::proofs::Counting::within_next))]
-    /// Moves the oldest datagram that waits into the buffer, and returns how many bytes it has there; what doesn't fit is dropped. Returns `None` if none waits. If
-    /// none waits, and at each sixteenth send or receive, it first takes in up to 256 datagrams from the socket, by one call of the system each and one more.
+    #[tactic(auto, using(crate::proofs::Counting::within_next))]
+    /// Moves the oldest datagram that waits into the buffer, and returns how many bytes it has there; what doesn't fit is dropped. If none waits, it receives the next one
+    /// right into the buffer, by one call of the system, and one more for each that it drops. Returns `None` if none is there, or 256 were dropped. At each sixteenth
+    /// send or receive, and for a buffer of up to 8 bytes if none waits, it first takes in up to 256 from the socket, by one call of the system each and one more.
     ///
     /// An error that the system told meanwhile is returned before all datagrams, once: for a loss it counts its kind and returns `None`, though datagrams may wait;
-    /// any other error is counted and returned as [`WireFault`]. It never waits and allocates nothing.
+    /// any other error is counted and returned as [`WireFault`]. It answers each error that the system returned on receiving, in order, and no other; at most one waits. It never
+    /// waits and allocates nothing.
     fn receive(&mut self, buffer: &mut [u8]) -> Result<Option<usize>, WireFault>
         ensures within { IfOk result (λ some. IfSome some (λ count. count ≤ length buffer.new)) }
         ensures failures { CountsIf (is_err result) self.old.failures self.new.failures }
@@ -326,19 +269,25 @@ impl Wire for UdpWire {
         ensures tells { TellsMore (answered buffer.new result) [] None None }
         ensures receives { ReceivesNext (length buffer.new) (answered buffer.new result) self.old self.new }
     {
-        let is_due = self.inbox.is_empty();
+        // What a short buffer has no sender of is judged in the queue.
+        let is_due = buffer.len() <= SENDER_PLACE && self.inbox.is_empty();
         self.look(is_due);
-        let next = self.next(buffer);
-        self.settle_next(next)
+        match self.inbox.next(&self.socket, buffer) {
+            Next::Datagram(count) => Ok(count),
+            Next::Failed(error) => {
+                self.count(error)?;
+                Ok(None)
+            }
+        }
     }
 
     /// Waits until a datagram came, another thread woke it, or `micros` microseconds went by, rounded up to whole milliseconds. Returns at once if a datagram or an error waits,
-    /// something was left in the socket, or a wake came since the last pause.
+    /// something was left in the socket, or a wake came since the last pause. A wake that is found at once leaves the system's event behind, which may end the next pause early.
     fn pause(&mut self, micros: u64)
         ensures { self.new ≡ self.old }
     {
         let woken = self.waker.take();
-        if micros == 0 || woken || !self.drained || !self.inbox.is_empty() {
+        if micros == 0 || woken || !self.inbox.is_drained() || !self.inbox.is_empty() {
             return;
         }
         // A wait that the system refuses ends at once: the next `receive` tells why.
@@ -347,7 +296,9 @@ impl Wire for UdpWire {
             .poll(&mut self.events, Some(Duration::from_micros(micros)));
         self.waker.take();
         // The poll reports once what came since the socket was found empty.
-        self.drained = !self.events.iter().any(|event| event.token() == SOCKET);
+        if self.events.iter().any(|event| event.token() == SOCKET) {
+            self.inbox.fill();
+        }
     }
 
     fn failures(&self) -> u64 {

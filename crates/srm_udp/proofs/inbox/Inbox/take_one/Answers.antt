@@ -1,6 +1,9 @@
 use Rattle.std.proofs.Common.{take}
-use Rattle.srm_udp.proofs.Arriving.{heard_one}
+use Rattle.srm_udp.proofs.Arriving.{took_one, took_none}
 use Rattle.srm_udp.proofs.inbox.Inbox.take_one.Goals as goal
 
-pub returns-in-Ok : goal.returns-in-Ok
-returns-in-Ok c = heard_one (record { origin = c.in-Ok.origin; bytes = take c.in-Ok.count c.hear.new.room }) c.args.self.now c.hear.new.self c.admit.new.self c.in-Ok.ensures.1 c.admit.ensures
+pub returns-then-admit : goal.returns-then-admit
+returns-then-admit c = took_one c.in-Ok.origin c.receive.new.room c.in-Ok.count c.args.self.now _ c.receive.new.came c.receive.new.errors c.admit.new.self c.self.view_is c.in-Ok.ensures.datagram c.in-Ok.ensures.error c.if-admit.ensures
+
+pub returns-else-admit : goal.returns-else-admit
+returns-else-admit c = took_none (record { origin = c.in-Ok.origin; bytes = take c.in-Ok.count c.receive.new.room }) c.args.self.now _ c.receive.new.came c.receive.new.errors c.admit.new.self c.self.view_is c.in-Ok.ensures.datagram.1 c.in-Ok.ensures.error c.if-admit.ensures
