@@ -1,15 +1,14 @@
 -- What a guard's calls open.
-use Rattle.std.proofs.Common.{◌≡◌, ℕ, List, [], ◌∷◌, ◌++◌, take, length, ◌⊎◌, Bool, true, false, refl, ap, sym, ◌∙◌, subst, inl, inr}
+use Rattle.std.proofs.Common.{◌≡◌, ℕ, List, [], ◌∷◌, ◌++◌, length, ◌⊎◌, Bool, true, false, refl, ap, sym, ◌∙◌, subst, inl, inr}
 use Rattle.std.specs.Prelude.{Option, Some, None, MatchBool}
-use Rattle.srm_window.specs.Windows.{WindowView}
 use Rattle.srm_window.specs.Senders.{numbered}
 use Rattle.srm_wire.specs.declared.sent.Sent.{Sent}
-use Rattle.srm_wire.specs.Wires.{answered_with, bytes_to, one_more}
+use Rattle.srm_wire.specs.Wires.{bytes_to, one_more}
 use Rattle.srm_guard.specs.declared.seal.Opened.{Opened}
 use Rattle.srm_guard.specs.declared.seal.Opened.TheVariants.{Datagram}
 use Rattle.srm_guard.specs.Seals.{SealView, Opens, sealed, next_to, one_sent}
 use Rattle.srm_guard.specs.Runs.{Opening, OpensEach}
-use Rattle.srm_guard.specs.Guards.{GuardView, BehindSeal, DropsEach, Passes, ReceivesTagged, SendsTagged, SendsBehind, cannot_seal}
+use Rattle.srm_guard.specs.Guards.{GuardView, BehindSeal, DropsEach, Passes, SendsBehind, cannot_seal}
 use Rattle.srm_guard.specs.Receives.{IsBroughtBy, ReceivesOpen, SendsKeep}
 
 -- one more was opened

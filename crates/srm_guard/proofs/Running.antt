@@ -1,11 +1,11 @@
 -- What is passed on of all that comes to a seal.
-use Rattle.std.proofs.Common.{◌≡◌, ℕ, ◌<◌, List, [], ◌∷◌, ◌++◌, Bool, true, false, cond, refl, ap, sym, ◌∙◌, subst}
+use Rattle.std.proofs.Common.{◌≡◌, ℕ, List, [], ◌∷◌, ◌++◌, cond, refl, ap, sym, ◌∙◌, subst}
 use Rattle.srm_window.specs.Windows.{WindowView}
-use Rattle.srm_window.specs.Senders.{Numbered, WindowsFit, admits_of, is_new, windows_after, passed_on, passed_on_behind}
+use Rattle.srm_window.specs.Senders.{Numbered, WindowsFit, admits_of, is_new, windows_after, passed_on_behind}
 use Rattle.srm_window.proofs.Sending.{fit_on}
 use Rattle.srm_guard.specs.declared.seal.Opened.{Opened}
 use Rattle.srm_guard.specs.declared.seal.Opened.TheVariants.{Foreign, Older, Again, Datagram}
-use Rattle.srm_guard.specs.Seals.{SealView, Opens, number_in, IsNumber, one_opened}
+use Rattle.srm_guard.specs.Seals.{SealView, Opens, number_in}
 use Rattle.srm_guard.specs.Runs.{Opening, OpensEach, sealed_number, passed_number, numbers_of, passed_of, PassesNew}
 
 -- of one that comes, and then of the rest

@@ -1,10 +1,10 @@
 -- Which bytes were sealed for a member, and what they open to.
-use Rattle.std.proofs.Common.{◌≡◌, ℕ, ◌+◌, ◌-◌, ◌<◌, ◌≤◌, List, [], ◌∷◌, ◌++◌, take, drop, length, refl, ap, sym, ◌∙◌, arith, subst, true, false}
+use Rattle.std.proofs.Common.{◌≡◌, ℕ, ◌+◌, ◌-◌, ◌≤◌, List, take, length, ap, sym, ◌∙◌, arith, subst, true, false}
 use Rattle.std.proofs.lemmas.List.{take-take, length-take-le}
-use Rattle.srm_window.specs.Senders.{Numbered, numbered, admits_of, windows_after}
-use Rattle.srm_guard.specs.declared.seal.Opened.TheVariants.{Foreign, Again, Datagram}
-use Rattle.srm_guard.specs.Tags.{tagged, HasNoTag, tag_of}
-use Rattle.srm_guard.specs.Seals.{SealView, with_number, sealed, number_at, number_in, IsNumber, HasNoNumber, HasNoSeal, Opens, one_opened}
+use Rattle.srm_window.specs.Senders.{Numbered, admits_of, windows_after}
+use Rattle.srm_guard.specs.declared.seal.Opened.TheVariants.{Again, Datagram}
+use Rattle.srm_guard.specs.Tags.{tagged, HasNoTag}
+use Rattle.srm_guard.specs.Seals.{SealView, with_number, sealed, number_at, number_in, IsNumber, HasNoNumber, HasNoSeal, Opens}
 use Rattle.srm_guard.proofs.Tagging.{text_of, length_tagged}
 
 -- bytes without a tag, or without a number before it

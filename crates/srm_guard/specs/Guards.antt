@@ -10,8 +10,6 @@ use Rattle.srm_guard.specs.declared.dropped.Cause.{Cause}
 use Rattle.srm_guard.specs.declared.dropped.Cause.TheVariants.{Untagged, Older, Again}
 use Rattle.srm_guard.specs.declared.seal.Opened.{Opened}
 use Rattle.srm_guard.specs.declared.seal.Opened.TheVariants.{Foreign as IsForeign, Older as IsOlder, Again as IsAgain, Datagram as IsDatagram}
-use Rattle.srm_guard.specs.declared.guard.Came.{Came}
-use Rattle.srm_guard.specs.declared.guard.Came.TheVariants.{Nothing, Datagram, Dropped as Discarded}
 use Rattle.srm_guard.specs.Seals.{SealView, Opens, sealed, next_to, one_sent}
 
 -- the wire below, the seal if there is one, what was dropped, and how many sends failed here
@@ -107,10 +105,3 @@ pub record ReceivesTagged {W : Type 0} (Below : W → ℕ → List (Option (List
   pub between : GuardView W
   pub drops : DropsEach Below room dropped g between
   pub brings : Brings Below room (length dropped) answer between h
-
--- One receive of the wire below, and what it comes to with this buffer: a failure, None, a datagram, or bytes that are dropped.
-abbrev pub ReceivesOne : {W E : Type 0} → (W → ℕ → List (Option (List ℕ)) → W → Type 0) → List ℕ → Result Came E → GuardView W → GuardView W → Type 0
-ReceivesOne Below buffer (Err _) g h = Passes Below (length buffer) [] g h
-ReceivesOne Below buffer (Ok Nothing) g h = Passes Below (length buffer) none_there g h
-ReceivesOne Below buffer (Ok (Datagram count)) g h = (count ≤ length buffer) × Passes Below (length buffer) (answered_with (take count buffer)) g h
-ReceivesOne Below buffer (Ok Discarded) g h = (bytes : List ℕ) × Below g.wire (length buffer) (answered_with bytes) h.wire × DropsOne g bytes h

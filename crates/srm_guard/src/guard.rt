@@ -2,7 +2,7 @@
 
 ghost use Rattle.std.specs.Prelude.{◌≡◌, is_err, IfOk};
 ghost use Rattle.srm_wire.specs.Wires.{CountsIf, counted_with};
-ghost use Rattle.srm_guard.specs.Guards.{BehindSeal, Judges, ReceivesOne, new_guard, one_dropped};
+ghost use Rattle.srm_guard.specs.Guards.{Judges, new_guard, one_dropped};
 
 use crate::dropped::{Cause, Dropped};
 use crate::seal::{Opened, Seal, TRAILER_BYTES};
@@ -16,13 +16,6 @@ const MOST_DROPPED: usize = 64;
 
 /// Bytes of the longest datagram that gets a tag.
 const LONGEST: usize = 65_535;
-
-// What one receive of the wire below comes to.
-enum Came {
-    Nothing,
-    Datagram(usize),
-    Dropped,
-}
 
 /// A wire around a wire. With a seal it sends each datagram with its number and tag behind it, drops what comes without its right tag, and drops what came before.
 /// Without one it drops nothing.
@@ -80,43 +73,18 @@ impl<X: Wire + Drop> Guard<X> {
         self.dropped
     }
 
-    // Opens bytes that came. Without a seal they are a datagram as they are.
-    fn open(&mut self, bytes: &[u8]) -> Opened
-        ensures opens { BehindSeal self.old.seal bytes.now result self.new.seal }
-        ensures rest { self.new ≡ record self.old { seal = self.new.seal } }
-    {
-        match &mut self.seal {
-            Some(seal) => seal.open(bytes),
-            None => Opened::Datagram(bytes.len()),
-        }
-    }
-
-    // Returns how many of these bytes the node is to hear, or why they are dropped.
+    // Returns how many of these bytes the node is to hear, or why they are dropped. Without a seal they are a datagram as they are.
     fn judge(&mut self, bytes: &[u8]) -> Result<usize, Cause>
         ensures { Judges bytes.now result self.old self.new }
     {
-        match self.open(bytes) {
+        let Some(seal) = &mut self.seal else {
+            return Ok(bytes.len());
+        };
+        match seal.open(bytes) {
             Opened::Foreign => Err(Cause::Untagged),
             Opened::Older => Err(Cause::Older),
             Opened::Again => Err(Cause::Again),
             Opened::Datagram(count) => Ok(count),
-        }
-    }
-
-    // Receives once from the wire below.
-    fn receive_one(&mut self, buffer: &mut [u8]) -> Result<Came, WireFault>
-        ensures failures { CountsIf (is_err result) (counted_with (X.failure_count self.old.wire) self.old.own) (counted_with (X.failure_count self.new.wire) self.new.own) }
-        ensures came { ReceivesOne X.receives buffer.new result self.old self.new }
-    {
-        let Some(length) = self.wire.receive(buffer)? else {
-            return Ok(Came::Nothing);
-        };
-        match self.judge(&buffer[..length]) {
-            Ok(count) => Ok(Came::Datagram(count)),
-            Err(cause) => {
-                self.count(cause);
-                Ok(Came::Dropped)
-            }
         }
     }
 
@@ -161,10 +129,12 @@ impl<X: Wire + Drop> Wire for Guard<X> {
 
     fn receive(&mut self, buffer: &mut [u8]) -> Result<Option<usize>, WireFault> {
         for _ in 0..MOST_DROPPED {
-            match self.receive_one(buffer)? {
-                Came::Nothing => return Ok(None),
-                Came::Datagram(count) => return Ok(Some(count)),
-                Came::Dropped => {}
+            let Some(length) = self.wire.receive(buffer)? else {
+                return Ok(None);
+            };
+            match self.judge(&buffer[..length]) {
+                Ok(count) => return Ok(Some(count)),
+                Err(cause) => self.count(cause),
             }
         }
         Ok(None)

@@ -4,7 +4,7 @@ ghost use Rattle.std.specs.Prelude.{◌≡◌, is_some, IfOk, IfSome};
 ghost use Rattle.srm_guarded.specs.Keying.{IsAllOf, IsKeyOf, IsKeyRead};
 
 use srm_guard::{Key, KeyFault};
-use srm_options::{GuardOptions, KeySource};
+use srm_options::{GuardOptions, KeySource, SystemCause};
 use std::alloc::{AllocError, Global};
 use std::fs::File;
 use std::io::{ErrorKind, Read};
@@ -15,7 +15,7 @@ use thiserror::Error;
 #[derive(Debug, Drop, PartialEq, Eq, Error)]
 pub enum KeyFileFault {
     /// The file at this path can't be opened or read, for this cause.
-    #[error("srm: cannot read key {0}: {1}")]
+    #[error("srm: cannot read key {0}: {cause}", cause = SystemCause::of_file(*.1))]
     Unreadable(String, ErrorKind),
     /// The file at this path doesn't have 16 to 1,024 bytes.
     #[error("srm: cannot use key {0}: not 16 to 1024 bytes")]
