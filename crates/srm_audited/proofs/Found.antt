@@ -62,7 +62,7 @@ pub record IsTakenIn (q : List Journal) (p : Replay) : Type 0 where
   pub slots : length p.lists ≡ PAGES
   pub prefix : (slot : ℕ) (list : List PageMsg) → slice_get p.lists slot ≡ Some list → IsPrefix list (given (entries_at q p.told.journal.start.config.me) slot)
 
-all_found : (q : List Journal) (ps : List Replay) (before : List Got) → AllByRecursion (IsTakenIn q) ps → AreOfOneSession (tolds ps)
+pub all_found : (q : List Journal) (ps : List Replay) (before : List Got) → AllByRecursion (IsTakenIn q) ps → AreOfOneSession (tolds ps)
     → ((p : Replay) → Has p ps → (j : ℕ) → list_any (is_of p.told.journal.start.config.me j) before ≡ false) → AllByRecursion (IsFound q) (steps_after before (flat_map gots_of ps))
 all_found q [] before all apart fresh = tt
 all_found q (p ∷ ps) before all apart fresh =

@@ -26,11 +26,12 @@ use Rattle.srm_gaps.specs.declared.told.Told.{Told}
 use Rattle.srm_audited.specs.declared.verdict.Verdict.{Verdict}
 use Rattle.srm_audited.specs.declared.verdict.Verdict.TheVariants.{Honest, NotHonest, Undecided}
 use Rattle.srm_audited.specs.declared.verdict.Reason.TheVariants as reasons
-use Rattle.srm_audited.specs.Sessions.{replay_of, IsReplayOf, AreOf}
+use Rattle.srm_audited.specs.Sessions.{replay_of, IsReplayOf, AreListed, AreOf}
 use Rattle.srm_gaps.specs.Gaps.{journals_of, AreComplete, AreOfOneSession}
 use Rattle.srm_gaps.specs.Possible.{HasOrder, IsRefusedAt}
 use Rattle.srm_audited.specs.Verdicts.{AreGiven, AreHonest, ArePart, IsUngiven, IsMismatch, IsReason, IsVerdict, IsVerdictOn, verdict_of_part, verdict_of_whole}
 use Rattle.std.proofs.lemmas.Option.{none-some, same_Some}
+use Rattle.srm_audited.proofs.Given.{given_not_foreign}
 
 pub is_replay : {E : Type 0} (r : Record) (v : Result Replayed E)
     → IfOk v (λ p. p.journal.start ≡ start_of r.beginning)
@@ -72,7 +73,7 @@ pub stuck_unsent : (ts : List Told) (gots : List Got) (member entry : ℕ) → A
 stuck_unsent ts gots member entry part refused = inr (part, refused)
 
 pub taken_ungiven : (ts : List Told) (gots : List Got) (member slot : ℕ) → ArePart ts → HasOrder ts → IsUngiven ts gots member slot → IsReason ts gots (reasons.Foreign member slot)
-taken_ungiven ts gots member slot are order ungiven = inr (are, order, inl ungiven)
+taken_ungiven ts gots member slot are order ungiven = inr (are, order, ungiven)
 
 whole : (ts : List Told) (gots : List Got) (mismatch : Mismatch) (v : Verdict) → AreComplete ts → IsMismatch ts gots mismatch → verdict_of_whole mismatch ≡ Some v → IsVerdictOn ts gots v
 whole ts gots Memory v complete is e = absurd (none-some v e)
@@ -84,15 +85,15 @@ pub whole_ok : {E : Type 0} (ts : List Told) (gots : List Got) (mismatch : Misma
 whole_ok ts gots mismatch (Ok v) complete is e = whole ts gots mismatch v complete is e
 whole_ok ts gots mismatch (Err fault) complete is e = tt
 
-part : (ts : List Told) (gots : List Got) (mismatch : Mismatch) (v : Verdict) → ArePart ts → HasOrder ts → AreGiven ts gots → IsMismatch ts gots mismatch → verdict_of_part mismatch ≡ Some v → IsVerdictOn ts gots v
-part ts gots Memory v are order given is e = absurd (none-some v e)
-part ts gots Roster v are order given is e = subst (IsVerdictOn ts gots) (same_Some Undecided v e) (record { part = are; refused = inl is; order = order; given = given })
-part ts gots (Foreign member slot) v are order given is e = subst (IsVerdictOn ts gots) (same_Some (NotHonest (reasons.Foreign member slot)) v e) (inr (are, order, inr is))
-part ts gots (Unsent member entry) v are order given is e = subst (IsVerdictOn ts gots) (same_Some Undecided v e) (record { part = are; refused = inr (member, entry, is); order = order; given = given })
+part : (ts : List Told) (gots : List Got) (mismatch : Mismatch) (v : Verdict) → ArePart ts → AreListed ts gots → HasOrder ts → AreGiven ts gots → IsMismatch ts gots mismatch → verdict_of_part mismatch ≡ Some v → IsVerdictOn ts gots v
+part ts gots Memory v are listed order given is e = absurd (none-some v e)
+part ts gots Roster v are listed order given is e = subst (IsVerdictOn ts gots) (same_Some Undecided v e) (record { part = are; refused = inl is; order = order; given = given })
+part ts gots (Foreign member slot) v are listed order given is e = absurd (given_not_foreign ts gots member slot are.session listed given is)
+part ts gots (Unsent member entry) v are listed order given is e = subst (IsVerdictOn ts gots) (same_Some Undecided v e) (record { part = are; refused = inr (member, entry, is); order = order; given = given })
 
-pub part_ok : {E : Type 0} (ts : List Told) (gots : List Got) (mismatch : Mismatch) (r : Result Verdict E) → ArePart ts → HasOrder ts → AreGiven ts gots → IsMismatch ts gots mismatch → IfOk r (λ v. verdict_of_part mismatch ≡ Some v) → IfOk r (IsVerdictOn ts gots)
-part_ok ts gots mismatch (Ok v) are order given is e = part ts gots mismatch v are order given is e
-part_ok ts gots mismatch (Err fault) are order given is e = tt
+pub part_ok : {E : Type 0} (ts : List Told) (gots : List Got) (mismatch : Mismatch) (r : Result Verdict E) → ArePart ts → AreListed ts gots → HasOrder ts → AreGiven ts gots → IsMismatch ts gots mismatch → IfOk r (λ v. verdict_of_part mismatch ≡ Some v) → IfOk r (IsVerdictOn ts gots)
+part_ok ts gots mismatch (Ok v) are listed order given is e = part ts gots mismatch v are listed order given is e
+part_ok ts gots mismatch (Err fault) are listed order given is e = tt
 
 -- the verdict on what came out is the verdict on the records
 pub of_records : (rs : List Record) (ts : List Told) (gots : List Got) (v : Verdict) → AreOf rs ts gots → IsVerdictOn ts gots v → IsVerdict rs v

@@ -11,3 +11,4 @@ mod Telling
 mod Written
 mod Filed
 mod WritersExample
+mod RefusedExample

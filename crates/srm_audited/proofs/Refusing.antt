@@ -112,9 +112,8 @@ no_reason t ps gots Roster a lists (inl (complete, refused)) =
     let (q, order) = in_order t.starts (tolds ps) a.as_told.run.roster a.began a.session (as_many_as_members t.starts (tolds ps) a.as_told.run.roster a.began complete) in refused q order
 no_reason t ps gots Roster a lists (inr (incomplete, differ)) = differ a.session
 no_reason t ps gots (Foreign member slot) a lists (inl (complete, refused)) = not_foreign t ps gots member slot a lists refused
-no_reason t ps gots (Foreign member slot) a lists (inr (part, order, inl ungiven)) =
+no_reason t ps gots (Foreign member slot) a lists (inr (part, order, ungiven)) =
     none_ungiven (tolds ps) gots member slot (subst (AreGiven (tolds ps)) (sym lists) (are_given t ps a.all a.session)) ungiven
-no_reason t ps gots (Foreign member slot) a lists (inr (part, order, inr refused)) = not_foreign t ps gots member slot a lists refused
 no_reason t ps gots (Unsent member entry) a lists (inl (complete, (q, order, found, unsent))) =
     let unseen : AllByRecursion RestsUnseen t.entries = unseen_in_run t a.as_told.run in
     all_sent t ps q member entry a

@@ -32,7 +32,8 @@ use Rattle.srm_frames.specs.WhatIsRead.{IsBeginning}
 use Rattle.srm_record.specs.Calls.{lines_of}
 use Rattle.srm_record.specs.Records.{record_text, record_of, last_of_record, whole_record}
 use Rattle.srm_record.specs.Replays.{start_of}
-use Rattle.srm_record.specs.Writing.{FileView, HasRecord}
+use Rattle.srm_output.specs.Writing.{AppendsFront}
+use Rattle.srm_record.specs.Writing.{FileView, HasRecord, Stays}
 use Rattle.srm_audited.specs.declared.verdict.Verdict.{Verdict}
 use Rattle.srm_audited.specs.declared.verdict.Verdict.TheVariants.{Honest}
 use Rattle.srm_audited.specs.Verdicts.{IsVerdict}
@@ -41,16 +42,16 @@ use Rattle.srm_audited.specs.Written.{IsRecorded, IsReadingOf, IsReadWhole, IsRe
 use Rattle.srm_audited.proofs.Refusing.{completeness_law}
 use Rattle.srm_audited.proofs.Cutting.{begins_long, frame_long}
 use Rattle.srm_audited.proofs.Written.{written_law, cut_law}
-use Rattle.srm_audited.proofs.Filed.{behind_calls, cut_files_law, files_law, kept_law}
+use Rattle.srm_audited.proofs.Filed.{behind_calls, cut_files_law, ended_law, files_law, kept_law}
 
-abbrev began : ℕ → Beginning
+abbrev pub began : ℕ → Beginning
 began me = record { config = config me; made = 0; seed = 0; wall = 0 }
 
 -- what member 1 did before its workers took what it gave
-abbrev calls : ℕ → List Entry
+abbrev pub calls : ℕ → List Entry
 calls me = take 5 (of_member me trace.entries)
 
-abbrev journal : ℕ → Journal
+abbrev pub journal : ℕ → Journal
 journal me = record { start = start_of (began me); entries = calls me }
 
 abbrev messages : List PageMsg
@@ -79,7 +80,7 @@ second_handed = (
   ),
 )
 
-first_lawful : IsLawfulJournal (journal 0)
+pub first_lawful : IsLawfulJournal (journal 0)
 first_lawful = lawful_journal (journal 0) (record { run = run.each.0; handed = first_handed })
 
 second_lawful : IsLawfulJournal (journal 1)
@@ -88,7 +89,7 @@ second_lawful = lawful_journal (journal 1) (record {
   handed = second_handed;
 })
 
-settings_fit : (me : ℕ) → me < 2 → IsBeginning (began me)
+pub settings_fit : (me : ℕ) → me < 2 → IsBeginning (began me)
 settings_fit me l = record {
   config = record {
     in_roster = l;
@@ -195,12 +196,15 @@ second_behind = text_behind_calls (began 1) (calls 1) all_taken
 abbrev second_takes : List ℕ
 second_takes = record_of (began 1) (calls 1) ++ take 5 second_behind
 
+second_parts : second_takes ++ drop 5 second_behind ≡ second_file
+second_parts =
+    append_assoc (record_of (began 1) (calls 1)) (take 5 second_behind) (drop 5 second_behind) ∙ ap (λ w. record_of (began 1) (calls 1) ++ w) (take-append-drop 5 second_behind)
+    ∙ sym (behind_calls (began 1) (calls 1) all_taken)
+
 second_cut : IsFileOf (began 1) (calls 1) all_taken second_takes
 second_cut = record {
   missing = drop 5 second_behind;
-  parts =
-      append_assoc (record_of (began 1) (calls 1)) (take 5 second_behind) (drop 5 second_behind) ∙ ap (λ w. record_of (began 1) (calls 1) ++ w) (take-append-drop 5 second_behind)
-      ∙ sym (behind_calls (began 1) (calls 1) all_taken);
+  parts = second_parts;
   few = (let short : length (drop 5 second_behind) ≤ length second_behind = omega (arith, length-drop 5 second_behind) in omega (arith, short));
 }
 
@@ -282,6 +286,24 @@ is_front = (kept_law file (calls 1) all_taken only_begun has_record refl refl).1
 
 begun_found : FoundHonest first_file only_begun
 begun_found = found_honest first_file only_begun (whole_file 0 none_taken) only_begun_kept
+
+-- At its end all that waited was written, and of what its workers took a part of the first frame.
+
+abbrev ending : List ℕ
+ending = file.waiting ++ take 5 second_behind
+
+it_stays : Stays (Some only_begun) (Some second_takes)
+unfolding record_text
+it_stays = (ending, append_assoc only_begun file.waiting (take 5 second_behind))
+
+some_written : AppendsFront (Some []) (Some second_takes) second_file
+some_written = record { behind = drop 5 second_behind; most = record { front = second_takes; parts = second_parts; output = refl } }
+
+second_ended : IsFileOf (began 1) (calls 1) all_taken second_takes
+second_ended = ended_law file (calls 1) all_taken second_takes has_record refl refl it_stays some_written
+
+ended_found : FoundHonest first_file second_takes
+ended_found = found_honest first_file second_takes (whole_file 0 none_taken) second_ended
 
 module _ (s : Record) (cut : IsReadingOf only_begun (Ok s)) where
   cut_read : IsReadPart (began 1) (journal 1) all_taken s

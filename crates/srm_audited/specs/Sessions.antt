@@ -1,6 +1,6 @@
 -- What came out of the records of a session, whose calls were made anew.
 use Rattle.std.specs.Prelude.{◌≡◌, ℕ, ◌+◌, ◌≤◌, Bool, true, false, List, [], ◌∷◌, ◌++◌, length, map}
-use Rattle.std.specs.List.{flat_map}
+use Rattle.std.specs.List.{flat_map, AllByRecursion}
 use Rattle.rand_pcg.specs.Lcg.{Lcg}
 use Rattle.rand_pcg.specs.Pcg.{pcg64}
 use Rattle.srm_names.specs.declared.limits.TheConstants.{PAGES}
@@ -66,6 +66,16 @@ gots_of p = gots_from p.told.journal.start.config.me 0 p.lists
 pub record AreOf (rs : List Record) (ts : List Told) (gots : List Got) : Type 0 where
   pub replays : List Replay
   pub each : AreReplaysOf rs replays
+  pub told : ts ≡ map (λ (p : Replay). p.told) replays
+  pub lists : gots ≡ flat_map gots_of replays
+
+abbrev pub HasAllSlots : Replay → Type 0
+HasAllSlots p = length p.lists ≡ PAGES
+
+-- of each member that is told of there is one list for each page slot, and there are no others
+pub record AreListed (ts : List Told) (gots : List Got) : Type 0 where
+  pub replays : List Replay
+  pub slots : AllByRecursion HasAllSlots replays
   pub told : ts ≡ map (λ (p : Replay). p.told) replays
   pub lists : gots ≡ flat_map gots_of replays
 

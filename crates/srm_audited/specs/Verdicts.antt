@@ -76,7 +76,7 @@ abbrev pub IsReason : List Told → List Got → Reason → Type 0
 IsReason ts gots (Untold place line) = ⊥
 IsReason ts gots Roster = (AreComplete ts × AreRefused ts gots mismatches.Roster) ⊎ (¬ (AreComplete ts) × ¬ (AreOfOneSession ts))
 IsReason ts gots (Foreign member slot) =
-    (AreComplete ts × AreRefused ts gots (mismatches.Foreign member slot)) ⊎ (ArePart ts × HasOrder ts × (IsUngiven ts gots member slot ⊎ AreRefused ts gots (mismatches.Foreign member slot)))
+    (AreComplete ts × AreRefused ts gots (mismatches.Foreign member slot)) ⊎ (ArePart ts × HasOrder ts × IsUngiven ts gots member slot)
 IsReason ts gots (Unsent member entry) = (AreComplete ts × AreRefused ts gots (mismatches.Unsent member entry)) ⊎ (ArePart ts × IsRefusedAt ts member entry)
 
 abbrev pub IsVerdictOn : List Told → List Got → Verdict → Type 0
@@ -122,9 +122,7 @@ verdict_of_whole mismatches.Roster = Some (NotHonest Roster)
 verdict_of_whole (mismatches.Foreign member slot) = Some (NotHonest (Foreign member slot))
 verdict_of_whole (mismatches.Unsent member entry) = Some (NotHonest (Unsent member entry))
 
--- the same where one is, all calls have a possible order, and all lists are given
+-- the same where one is, all calls have a possible order, and all lists are given: then none is foreign
 abbrev pub verdict_of_part : Mismatch → Option Verdict
 verdict_of_part mismatches.Memory = None
-verdict_of_part mismatches.Roster = Some Undecided
-verdict_of_part (mismatches.Foreign member slot) = Some (NotHonest (Foreign member slot))
-verdict_of_part (mismatches.Unsent member entry) = Some Undecided
+verdict_of_part mismatch = Some Undecided

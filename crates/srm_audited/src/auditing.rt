@@ -2,7 +2,7 @@
 
 ghost use Rattle.std.specs.Prelude.{◌≡◌, [], Some, IfErr, IfOk, OnOk};
 ghost use Rattle.srm_gaps.specs.Possible.{HasOrder};
-ghost use Rattle.srm_audited.specs.Sessions.{AreOf};
+ghost use Rattle.srm_audited.specs.Sessions.{AreListed, AreOf};
 ghost use Rattle.srm_gaps.specs.Gaps.{AreComplete};
 ghost use Rattle.srm_audited.specs.Verdicts.{AreGiven, AreHonest, ArePart, IsMismatch, IsStoppedAt, IsUnjudged, IsVerdict, IsVerdictOn, told_of_stop, verdict_of_part, verdict_of_whole};
 ghost use Rattle.srm_audited.specs.declared.unjudged.Unjudged.TheVariants.{Memory};
@@ -26,7 +26,7 @@ use std::alloc::{AllocError, Global};
 ///
 /// Fails with [`Unjudged::TooMuch`] for the first record whose calls set more timers than one of its length may, if all before it are of runs, and if out of memory. Makes each
 /// record's calls anew, once; stores the bytes of each datagram that was sent, twice where a record is missing or cut.
-#[tactic(auto, using(crate::proofs::Judged::of_records_ok, crate::proofs::SoFar::stop_told, crate::proofs::SoFar::stop_unjudged, crate::proofs::SoFar::unjudged_by_memory))]
+#[tactic(auto, using(crate::proofs::Judged::of_records_ok, crate::proofs::Given::are_listed, crate::proofs::SoFar::stop_told, crate::proofs::SoFar::stop_unjudged, crate::proofs::SoFar::unjudged_by_memory))]
 pub fn audit(alloc: Global, records: &[Record]) -> Result<Verdict, Unjudged>
     ensures verdict { IfOk result (IsVerdict records.now) }
     ensures unjudged { IfErr result (IsUnjudged records.now) }
@@ -77,6 +77,7 @@ fn told_of_stop(place: usize, fault: RetellFault) -> Result<Verdict, Unjudged>
 
 // The verdict where each record gave a replay.
 fn told_of_all(alloc: Global, gathered: Gathered) -> Result<Verdict, Unjudged>
+    requires { AreListed gathered.told.items gathered.gots.items }
     ensures verdict { IfOk result (IsVerdictOn gathered.told.items gathered.gots.items) }
     ensures memory { IfErr result (λ fault. fault ≡ Memory) }
 {
@@ -88,6 +89,7 @@ fn told_of_all(alloc: Global, gathered: Gathered) -> Result<Verdict, Unjudged>
 
 #[tactic(auto, using(crate::proofs::Judged::no_roster, crate::proofs::Judged::are_part))]
 fn judge(alloc: Global, gathered: Gathered) -> Result<Verdict, AllocError>
+    requires { AreListed gathered.told.items gathered.gots.items }
     ensures { IfOk result (IsVerdictOn gathered.told.items gathered.gots.items) }
 {
     let Gathered { told, gots } = gathered;
@@ -129,7 +131,8 @@ fn told_of_whole(mismatch: Mismatch) -> Result<Verdict, AllocError>
 // The verdict where a record is missing or cut.
 #[tactic(auto, using(crate::proofs::Judged::stuck_unsent))]
 fn suppose(alloc: Global, told: Vec<Told>, gots: Vec<Got>) -> Result<Verdict, AllocError>
-    requires { ArePart told.items }
+    requires part { ArePart told.items }
+    requires listed { AreListed told.items gots.items }
     ensures { IfOk result (IsVerdictOn told.items gots.items) }
 {
     match first_stuck(alloc, &told)? {
@@ -142,6 +145,7 @@ fn suppose(alloc: Global, told: Vec<Told>, gots: Vec<Got>) -> Result<Verdict, Al
 #[tactic(auto, using(crate::proofs::Judged::taken_ungiven))]
 fn decide(alloc: Global, told: Vec<Told>, gots: Vec<Got>) -> Result<Verdict, AllocError>
     requires part { ArePart told.items }
+    requires listed { AreListed told.items gots.items }
     requires order { HasOrder told.items }
     ensures { IfOk result (IsVerdictOn told.items gots.items) }
 {
@@ -154,6 +158,7 @@ fn decide(alloc: Global, told: Vec<Told>, gots: Vec<Got>) -> Result<Verdict, All
 // The same, and page workers took what their own members gave.
 fn settle(alloc: Global, told: Vec<Told>, gots: Vec<Got>) -> Result<Verdict, AllocError>
     requires part { ArePart told.items }
+    requires listed { AreListed told.items gots.items }
     requires order { HasOrder told.items }
     requires given { AreGiven told.items gots.items }
     ensures { IfOk result (IsVerdictOn told.items gots.items) }
@@ -164,15 +169,13 @@ fn settle(alloc: Global, told: Vec<Told>, gots: Vec<Got>) -> Result<Verdict, All
     }
 }
 
+// No list is foreign here, since all are given: a member is missing, or an entry hears what isn't sent.
 fn told_of_part(mismatch: Mismatch) -> Result<Verdict, AllocError>
     ensures { IfOk result (λ verdict. verdict_of_part mismatch ≡ Some verdict) }
 {
     match mismatch {
         Mismatch::Memory => Err(AllocError),
-        Mismatch::Foreign { member, slot } => {
-            Ok(Verdict::NotHonest(Reason::Foreign { member, slot }))
-        }
-        Mismatch::Roster | Mismatch::Unsent { .. } => Ok(Verdict::Undecided),
+        _ => Ok(Verdict::Undecided),
     }
 }
 

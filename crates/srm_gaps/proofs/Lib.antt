@@ -9,3 +9,4 @@ pub mod Exactly
 pub mod Counting
 pub mod Rostered
 mod RetellingExample
+mod RefusingExample

@@ -8,7 +8,8 @@ mod Making
 mod Timers
 mod Taken
 mod Remade
-mod Untold
+pub mod Untold
 mod Stopping
 mod Beside
 mod Beginning
+mod RecordedExample
