@@ -5,7 +5,7 @@ ghost use Rattle.srm_options.specs.Options.{IsInGuardRange};
 
 use crate::key_source::KeySource;
 use crate::mistake::Mistake;
-use crate::node::{flag, option};
+use crate::node::{flag, number, option};
 use crate::path_option::path_in;
 use clap::{ArgMatches, Command, value_parser};
 use srm_names::{DRAWOPS, MEMBERS, PAGES};
@@ -39,7 +39,7 @@ impl GuardOptions {
 
 /// Adds the guard's options to a command. Fails only if out of memory.
 pub fn with_guard<'a>(alloc: Global, command: Command<'a>) -> Result<Command<'a>, AllocError> {
-    let most_missing = option(
+    let most_missing = number(
         alloc,
         "most-missing",
         "N",
@@ -66,8 +66,8 @@ pub fn with_guard<'a>(alloc: Global, command: Command<'a>) -> Result<Command<'a>
         .arg(most_missing)
 }
 
-/// Returns what the arguments say of the guard. A live member keeps to its roster unless told otherwise; any other takes datagrams from any address. Fails if both are asked for, or if out of
-/// memory.
+/// Returns what the arguments say of the guard. A live member keeps to its roster unless told otherwise; any other takes datagrams from any address. Fails if both are asked for, if the key's
+/// file has an empty name, or if out of memory.
 pub fn guard_in<'a>(
     alloc: Global,
     matches: &ArgMatches<'a>,

@@ -81,9 +81,11 @@ for what it holds, for 30 seconds at most, and leaves; so it does at /leave, whe
 its output is closed, and at a signal (INT, TERM, HUP) where ./srm started it; a
 second signal ends it at once. Standard error tells who of the others is here, was
 silent for 10 seconds or left, that the member was in the session before under its
-number, why its address can't be bound or which call of its socket failed, and at
-the end who was not heard leaving, of which streams drawops are missing, how many
-datagrams the network refused to take, and how many came and were dropped, by cause.
+number, that a datagram of another session came or one that is too long, that nobody
+was heard for 10 seconds, why its address can't be bound or which call of its socket
+failed, and at the end who was not heard leaving, of which streams drawops are
+missing, how many datagrams the network refused to take, and how many came and were
+dropped, by cause.
 On a terminal the title of the window shows each second how many of the others were
 heard, how many drawops are missing, how many datagrams came and were sent, how many
 of those sent were requests and repairs, and how many the network refused.

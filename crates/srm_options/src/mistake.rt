@@ -1,5 +1,6 @@
 //! What is wrong in a command line that has all its options.
 
+use crate::system_cause::SystemCause;
 use srm_names::MEMBERS;
 use srm_timers::GREATEST_TIMER_SETTING;
 use std::io::ErrorKind;
@@ -12,7 +13,7 @@ pub enum Mistake<'a> {
     Address(&'a str),
     #[error("'{0}' is no address with a port, as 127.0.0.1:47100, [::1]:47100 or host:47100")]
     Host(&'a str),
-    #[error("srm: cannot resolve {0}: {1}")]
+    #[error("srm: cannot resolve {0}: {cause}", cause = SystemCause::of_host(*.1))]
     Unresolved(&'a str, ErrorKind),
     #[error("the addresses are of IPv4 and of IPv6: all members need one of the same kind")]
     Families,
@@ -24,6 +25,10 @@ pub enum Mistake<'a> {
     Waits(&'a str),
     #[error("the address '{0}' stands there twice: each member has one of its own")]
     Twice(&'a str),
+    #[error("the address '{0}' of this member has port 0: name the port that the others send to")]
+    OwnPort(&'a str),
+    #[error("'--{0} <FILE>' is empty: name a file, or leave it out")]
+    NoFile(&'a str),
     #[error("invalid value '{0}' for '--{1}': that is no time from {2} to {3} microseconds, as 5s, 500ms or 5000000")]
     Time(&'a str, &'a str, u64, u64),
     #[error("'--linger <U>' is for '--live' alone")]

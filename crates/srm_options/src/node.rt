@@ -10,6 +10,7 @@ use crate::live_defaults::{LIVE_LINGER, live_settings};
 use crate::mistake::Mistake;
 use crate::names::Names;
 use crate::node_options::{LONGEST_LINGER, NodeOptions};
+use crate::own_port::names_port;
 use crate::path_option::path_in;
 use crate::reply::Reply;
 use crate::resolving::{NoNames, Resolve, System, resolved};
@@ -111,15 +112,20 @@ pub(crate) fn option<'a>(alloc: Global, name: &'a str, value: &'a str, help: &'a
         .action(ArgAction::Set)
 }
 
+/// An option whose value is a number. A negative one is a value too, so it is told with the option's range.
+pub(crate) fn number<'a>(alloc: Global, name: &'a str, value: &'a str, help: &'a str) -> Arg<'a> {
+    option(alloc, name, value, help).allow_negative_numbers(true)
+}
+
 fn with_member<'a>(
     alloc: Global,
     command: Command<'a>,
     live: bool,
 ) -> Result<Command<'a>, AllocError> {
-    let session = option(alloc, "session", "S", "number of the session, below 2^32")
+    let session = number(alloc, "session", "S", "number of the session, below 2^32")
         .required(true)
         .value_parser(value_parser!(u32));
-    let me = option(
+    let me = number(
         alloc,
         "me",
         "M",
@@ -127,7 +133,7 @@ fn with_member<'a>(
     )
     .required(true)
     .value_parser(value_parser!(u8));
-    let start = option(
+    let start = number(
         alloc,
         "start",
         "N",
@@ -142,7 +148,7 @@ fn with_member<'a>(
 }
 
 fn stay_option<'a>(alloc: Global, live: bool) -> Arg<'a> {
-    let stay = option(
+    let stay = number(
         alloc,
         "stay",
         "U",
@@ -161,7 +167,7 @@ fn least_distance_option<'a>(alloc: Global, live: bool) -> Arg<'a> {
         "a distance counts as at least so many microseconds, 1 to 10000000; else 1, or 5000 with --live, where 5ms will do",
         "a distance counts as at least so many microseconds, 1 to 10000000; else 5000; 5ms will do",
     );
-    let least_distance = option(alloc, "least-distance", "L", help);
+    let least_distance = number(alloc, "least-distance", "L", help);
     if live {
         least_distance
     } else {
@@ -175,7 +181,7 @@ fn turns_option<'a>(alloc: Global, live: bool) -> Arg<'a> {
         "turns so often, at most, below 2^64; else 1000000, or with --live as often as it takes",
         "turns so often, at most, below 2^64; else as often as it takes",
     );
-    option(alloc, "turns", "T", help).value_parser(value_parser!(u64))
+    number(alloc, "turns", "T", help).value_parser(value_parser!(u64))
 }
 
 fn rate_option<'a>(alloc: Global, live: bool) -> Arg<'a> {
@@ -184,7 +190,7 @@ fn rate_option<'a>(alloc: Global, live: bool) -> Arg<'a> {
         "bytes a second, 1 to 100000000; else 8000, or 64000 with --live",
         "bytes a second, 1 to 100000000; else 64000",
     );
-    option(alloc, "rate", "R", help).value_parser(value_parser!(u32).range(
+    number(alloc, "rate", "R", help).value_parser(value_parser!(u32).range(
         i64::from(LEAST_RATE)..=i64::from(GREATEST_RATE),
     ))
 }
@@ -192,10 +198,10 @@ fn rate_option<'a>(alloc: Global, live: bool) -> Arg<'a> {
 fn linger_option<'a>(alloc: Global, live: bool) -> Arg<'a> {
     let help = help_of(
         live,
-        "with --live, leaves only once nobody asked for what it holds for so many microseconds, 0 to 30000000; else 2000000",
-        "leaves only once nobody asked for what it holds for so many microseconds, 0 to 30000000; else 2000000; 2s will do",
+        "with --live, leaves only once nobody asked for what it holds for so many microseconds, 0 to 30000000; else 6000000",
+        "leaves only once nobody asked for what it holds for so many microseconds, 0 to 30000000; else 6000000; 6s will do",
     );
-    option(alloc, "linger", "U", help)
+    number(alloc, "linger", "U", help)
 }
 
 // What the help says of an option.
@@ -208,7 +214,7 @@ fn with_limits<'a>(
     command: Command<'a>,
     live: bool,
 ) -> Result<Command<'a>, AllocError> {
-    let depth = option(
+    let depth = number(
         alloc,
         "depth",
         "D",
@@ -272,6 +278,60 @@ pub(crate) fn options_in<'a, S: Resolve>(
     let texts = matches.get_strs("ADDR").unwrap_or(&[]);
     let live = matches.get_flag("live");
     let addresses = addresses_in(alloc, texts, live, names)?;
+    let numbers = numbers_in(matches, live, texts, addresses.as_slice())?;
+    let guard = guard_in(alloc, matches, live)?;
+    let record = path_in(alloc, matches, "record")?;
+    Ok(NodeOptions {
+        config: numbers.config,
+        seed: numbers.seed,
+        stay: numbers.stay,
+        linger: numbers.linger,
+        turns: numbers.turns,
+        live,
+        verbose: matches.get_flag("verbose"),
+        guard,
+        record,
+        names: Names::none(alloc),
+        addresses,
+    })
+}
+
+// What the arguments say in numbers. They are read apart from what owns memory, since each `?` has what is owned there to drop, and its proof takes longer for it.
+#[derive(Clone, Copy)]
+struct Numbers {
+    config: Config,
+    seed: u64,
+    stay: u64,
+    linger: u64,
+    turns: u64,
+}
+
+fn numbers_in<'a>(
+    matches: &ArgMatches<'a>,
+    live: bool,
+    texts: &[&'a str],
+    addresses: &[SocketAddr],
+) -> Result<Numbers, Mistake<'a>> {
+    let config = config_in(matches, live, texts, addresses)?;
+    let stay = micros_in(matches, "stay", live, 0, LATEST_MOMENT)?.unwrap_or(STAY);
+    // How long a live member runs is for who types to say.
+    let turns = if live { u64::MAX } else { TURNS };
+    Ok(Numbers {
+        config,
+        seed: start_in(matches, live, config.me()),
+        stay,
+        linger: linger_in(matches, live)?,
+        turns: matches.get_one::<u64>("turns").unwrap_or(turns),
+    })
+}
+
+/// The member, its session, and what it may send and how long it waits. Fails if its addresses don't fit either.
+fn config_in<'a>(
+    matches: &ArgMatches<'a>,
+    live: bool,
+    texts: &[&'a str],
+    addresses: &[SocketAddr],
+) -> Result<Config, Mistake<'a>> {
     let me = member_in(matches, addresses.len()).ok_or(Mistake::NoPlace)?;
     let session = matches.get_one::<u32>("session").ok_or(Mistake::Range)?;
     let settings = settings_in(matches, live)?;
@@ -279,25 +339,10 @@ pub(crate) fn options_in<'a, S: Resolve>(
         return Err(Mistake::TooMany);
     };
     if live {
-        find_twice(texts, addresses.as_slice())?;
+        find_twice(texts, addresses)?;
+        look_at_own_port(texts, addresses, me)?;
     }
-    let config = Config::with(me, members, session, settings).ok_or(Mistake::Range)?;
-    let stay = micros_in(matches, "stay", live, 0, LATEST_MOMENT)?.unwrap_or(STAY);
-    // How long a live member runs is for who types to say.
-    let turns = if live { u64::MAX } else { TURNS };
-    Ok(NodeOptions {
-        config,
-        seed: start_in(matches, live, me),
-        stay,
-        linger: linger_in(matches, live)?,
-        turns: matches.get_one::<u64>("turns").unwrap_or(turns),
-        live,
-        verbose: matches.get_flag("verbose"),
-        guard: guard_in(alloc, matches, live)?,
-        record: path_in(alloc, matches, "record")?,
-        names: Names::none(alloc),
-        addresses,
-    })
+    Config::with(me, members, session, settings).ok_or(Mistake::Range)
 }
 
 /// What the member's random waits start from. Members that start alike choose alike, so those that are live differ.
@@ -438,6 +483,21 @@ fn find_twice<'a>(texts: &[&'a str], addresses: &[SocketAddr]) -> Result<(), Mis
         }
     }
     Ok(())
+}
+
+/// Refuses port 0 of a live member that isn't alone: the system would choose a port, and nobody else would know it.
+fn look_at_own_port<'a>(
+    texts: &[&'a str],
+    addresses: &[SocketAddr],
+    me: Member,
+) -> Result<(), Mistake<'a>> {
+    if names_port(addresses, me.index()) {
+        return Ok(());
+    }
+    match texts.get(me.index()) {
+        Some(text) => Err(Mistake::OwnPort(text)),
+        None => Err(Mistake::NoPlace),
+    }
 }
 
 /// The member, where it is one of so many.

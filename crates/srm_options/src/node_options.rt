@@ -5,6 +5,7 @@ ghost use Rattle.srm_options.specs.Options.{AreInRange};
 
 use crate::guard_options::GuardOptions;
 use crate::names::Names;
+use crate::own_port::names_port;
 use srm_entries::Config;
 use srm_names::LATEST_MOMENT;
 use std::net::SocketAddr;
@@ -40,12 +41,13 @@ pub struct NodeOptions {
 }
 
 impl NodeOptions {
-    /// Returns whether each member has an address and nobody else has, the member leaves in time, lingers no longer than it may and only if
-    /// it is live, and its guard is in its range.
+    /// Returns whether each member has an address and nobody else has, a live member that isn't alone has a port that others know, the member leaves in time, lingers no longer than it
+    /// may and only if it is live, and its guard is in its range.
     pub fn is_in_range(&self) -> bool
         ensures { IsTrue result ↔ AreInRange self.now }
     {
         self.addresses.len() == usize::from(self.config.members())
+            && (!self.live || names_port(self.addresses.as_slice(), self.config.me().index()))
             && self.stay <= LATEST_MOMENT
             && self.linger <= LONGEST_LINGER
             && (self.live || self.linger == 0)

@@ -84,7 +84,7 @@ impl Field {
             Field::LeastDistance => "microseconds from 1 to 10000000, as least-distance = 5000",
             Field::Rate => "bytes a second from 1 to 100000000, as rate = 64000",
             Field::Depth => "bytes from 1051 to 1000000, as depth = 4204",
-            Field::Linger => "microseconds from 0 to 30000000, as linger = 2000000",
+            Field::Linger => "microseconds from 0 to 30000000, as linger = 6000000",
             Field::MostMissing => "drawops from 1 to 16777216, as most-missing = 16777216",
         }
     }

@@ -39,7 +39,7 @@ impl RoomSettings {
             least_distance: 5_000,
             rate: 64_000,
             depth: 4_204,
-            linger: 2_000_000,
+            linger: 6_000_000,
             most_missing: 16_777_216,
         }
     }

@@ -5,6 +5,7 @@ ghost use Rattle.srm_script.specs.declared.status.TheConstants.{RAN_OUT};
 ghost use Rattle.srm_rooms.specs.declared.room_file_fault.RoomFileFault.TheVariants.{Memory};
 ghost use Rattle.srm_rooms.specs.RoomStatuses.{status_of};
 
+use srm_options::SystemCause;
 use srm_room::RoomError;
 use srm_script::{FAILED, RAN_OUT, print_fault};
 use std::alloc::{AllocError, Global};
@@ -15,10 +16,10 @@ use thiserror::Error;
 #[derive(Debug, Drop, Error)]
 pub enum RoomFileFault {
     /// The file at this path can't be opened or read, for this cause.
-    #[error("srm: cannot read room {0}: {1}: name a file that srm room new or srm room take wrote")]
+    #[error("srm: cannot read room {0}: {cause}: name a file that srm room new or srm room take wrote", cause = SystemCause::of_file(*.1))]
     Unreadable(String, ErrorKind),
     /// The file at this path can't be made or written, for this cause.
-    #[error("srm: cannot write room {0}: {1}: name a file that isn't there yet, in a folder where you may write")]
+    #[error("srm: cannot write room {0}: {cause}: name a file that isn't there yet, in a folder where you may write", cause = SystemCause::of_file(*.1))]
     Unwritten(String, ErrorKind),
     /// What this file has is no UTF-8, or longer than 65,536 bytes.
     #[error("srm: room {0}: that is no text of at most 65536 bytes: write a room as srm room new does")]
