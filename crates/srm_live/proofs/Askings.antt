@@ -9,7 +9,7 @@ use Rattle.srm_control.specs.declared.command.PageCommand.{PageCommand}
 use Rattle.srm_control.specs.declared.command.PageCommand.TheVariants.{Show, Begin}
 use Rattle.srm_control.specs.declared.command.PageAnswer.{PageAnswer}
 use Rattle.srm_control.specs.Ends.{ControlView}
-use Rattle.srm_live.specs.Asking.{Answers, answer_to, same_command, AreAmong, begins, begins_in, Takes, HearsBut, Hears, HearsLast}
+use Rattle.srm_live.specs.Asking.{Answers, answer_to, same_command, commands_of, AreAmong, begins, begins_in, Takes, HearsBut, Hears, HearsLast}
 
 pub same_command-itself : (command : PageCommand) → same_command command command ≡ true
 same_command-itself (Show page) = same_page-itself page
@@ -39,8 +39,11 @@ begins-append [] b = omega arith
 begins-append (Show page ∷ cs) b = begins-append cs b
 begins-append (Begin ∷ cs) b = omega (arith, begins-append cs b)
 
+pub commands-append : (a b : Answers) → commands_of (a ++ b) ≡ commands_of a ++ commands_of b
+commands-append a b = map-append (λ (x : PageAnswer). x.command) a b
+
 begins_in-append : (a b : Answers) → begins_in (a ++ b) ≡ begins_in a + begins_in b
-begins_in-append a b = ap begins (map-append (λ (x : PageAnswer). x.command) a b) ∙ begins-append (map (λ (x : PageAnswer). x.command) a) (map (λ (x : PageAnswer). x.command) b)
+begins_in-append a b = ap begins (commands-append a b) ∙ begins-append (commands_of a) (commands_of b)
 
 begins-one : (command : PageCommand) → begins (command ∷ []) ≤ 1
 begins-one (Show page) = omega arith

@@ -8,4 +8,5 @@ pub mod MemberBits
 pub mod PageNames
 pub mod Recorded
 pub mod Sent
+pub mod Sinks
 pub mod TypedLines

@@ -1,8 +1,9 @@
 -- A live member's run by its options, put together from what its parts tell.
-use Rattle.std.proofs.Common.{◌≡◌, ℕ, Bool, List, length, All, refl, sym, ◌∙◌, subst, inl, inr, arith}
+use Rattle.std.proofs.Common.{◌≡◌, ℕ, Bool, true, false, List, length, All, refl, ap, sym, ◌∙◌, subst, inl, inr, arith}
 use Rattle.std.specs.Prelude.{Option, Some, None, is_some}
 use Rattle.srm_names.specs.declared.limits.TheConstants.{PAGES}
 use Rattle.srm_names.specs.declared.page_msg.PageMsg.{PageMsg}
+use Rattle.srm_names.specs.PageFeeds.{is_page_feed}
 use Rattle.srm_pages.specs.Ends.{TapView, PenView}
 use Rattle.srm_control.specs.Ends.{ControlView, new_commands}
 use Rattle.srm_udp.specs.Resting.{new_rested}
@@ -11,7 +12,7 @@ use Rattle.srm_guarded.specs.Guarding.{IsSealBy, guarded_wire}
 use Rattle.srm_guarded.specs.Keying.{IsKeyRead}
 use Rattle.srm_options.specs.declared.node_options.NodeOptions.{NodeOptions}
 use Rattle.srm_node.specs.Calls.{Calls}
-use Rattle.srm_node.specs.Nodes.{NodeState}
+use Rattle.srm_node.specs.Nodes.{NodeState, NodeView}
 use Rattle.srm_script.specs.declared.fault.ScriptFault.{ScriptFault}
 use Rattle.srm_script.specs.declared.fault.ScriptFault.TheVariants.{StandardInput, TooLong, BadLine, Output, Memory}
 use Rattle.srm_member.specs.declared.fault.MemberFault.{MemberFault}
@@ -22,12 +23,12 @@ use Rattle.srm_record.specs.Begun.{IsRecorded}
 use Rattle.srm_member.proofs.MemberRuns.{status_of_some, status_of_most, stored_if}
 use Rattle.srm_member.specs.MemberRuns.{IsStoredIf, member_calls}
 use Rattle.srm_member.specs.Stations.{BeginsIn, IsNewStation}
-use Rattle.srm_member.specs.WholeRuns.{SawEach}
 use Rattle.srm_live.specs.declared.live_fault.LiveFault.{LiveFault}
 use Rattle.srm_live.specs.declared.live_fault.LiveFault.TheVariants.{Member, WasBefore}
-use Rattle.srm_live.specs.LiveStatuses.{IsWholeEnd, IsWholeStatus, fault_of_end, status_of_live}
-use Rattle.srm_live.specs.LiveLines.{PrintingView, PrintsLine, new_printing}
-use Rattle.srm_live.specs.LiveRuns.{IsWholeLiveRun}
+use Rattle.srm_live.specs.LiveStatuses.{IsWholeEnd, IsWholeStatus, fault_if_cut, fault_of_end, status_of_live}
+use Rattle.srm_live.specs.LiveLines.{PrintingView, PrintsLine, PrintedEach, new_printing}
+use Rattle.srm_live.specs.LiveRuns.{IsWholeLiveRun, SawWhole}
+use Rattle.srm_live.proofs.LiveLines.{prints_whole}
 use Rattle.srm_live.specs.LiveMembers.{MemberNode, LivesFrom, LivesWith, LivesWhole}
 
 -- a fault has a status by itself
@@ -64,18 +65,36 @@ pub told_none : (run told : Option MemberFault) → IsToldOf run told → told �
 told_none None told of none = refl
 told_none (Some f) told (call, cause, of) none = let k : Some (fault_with_cause cause (fault_with_call call f)) ≡ None = sym of ∙ none in cc
 
-pub whole_end : (run told : Option MemberFault) (noted : Option ScriptFault) (was_before : Bool) (result : Option LiveFault) → IsToldOf run told → result ≡ fault_of_end (fault_of_live told noted) was_before → IsWholeEnd result → run ≡ None
-whole_end run told noted was_before result of is whole = told_none run told of (live_none told noted (end_none (fault_of_live told noted) was_before (subst IsWholeEnd is whole)))
+-- where not all was drawn and printed there is a fault
+cut_none : (is_complete : Bool) (fault : Option MemberFault) → fault_if_cut is_complete fault ≡ None → (fault ≡ None) × (is_complete ≡ true)
+cut_none true None e = (refl, refl)
+cut_none true (Some f) e = let k : Some f ≡ None = e in cc
+cut_none false None e = let k : Some (Script Memory) ≡ None = e in cc
+cut_none false (Some f) e = let k : Some f ≡ None = e in cc
+
+pub whole_end : (run told fault cut : Option MemberFault) (noted : Option ScriptFault) (is_complete was_before : Bool) (result : Option LiveFault) → IsToldOf run told → fault ≡ fault_of_live told noted → cut ≡ fault_if_cut is_complete fault → result ≡ fault_of_end cut was_before → IsWholeEnd result
+    → (run ≡ None) × (is_complete ≡ true)
+whole_end run told fault cut noted is_complete was_before result of live_is cut_is is whole =
+    let both = cut_none is_complete fault (sym cut_is ∙ end_none cut was_before (subst IsWholeEnd is whole)) in
+    (told_none run told of (live_none told noted (sym live_is ∙ both.0)), both.1)
 
 -- the node that ran is the one that got a control
 pub lives_from : {W X C S F : Type 0} (calls : Calls X C) (Sees : S → ℕ → PageMsg → Bool → S → Type 0) (contents : F → Option (List ℕ)) (turns : ℕ) (known : Option (List ℕ)) (old new : NodeState W X C) (control : ControlView) (sinks : List S)
     → new ≡ record old { view = record old.view { control = Some (new_commands control.out control.back) } }
-    → ((took : List (List PageMsg)) × (whole : IsWholeLiveRun calls turns known new.view took) × SawEach Sees sinks took × (file : Option F) × IsRecorded contents new.begins whole.host.last.journal.entries took file)
+    → ((took : List (List PageMsg)) × (whole : IsWholeLiveRun calls turns known new.view took) × SawWhole Sees sinks took × (file : Option F) × IsRecorded contents new.begins whole.host.last.journal.entries took file)
     → LivesFrom calls Sees contents turns known old.view old.begins sinks
 lives_from {W} {X} {C} calls Sees contents turns known old new control sinks is (took, whole, saw, file, recorded) =
     let both : (w : IsWholeLiveRun calls turns known (record old.view { control = Some (new_commands control.out control.back) }) took) × IsRecorded contents old.begins w.host.last.journal.entries took file =
     subst (λ (n : NodeState W X C). (w : IsWholeLiveRun calls turns known n.view took) × IsRecorded contents n.begins w.host.last.journal.entries took file) is (whole, recorded) in
     record { commands = new_commands control.out control.back; fresh = refl; took = took; whole = both.0; saw = saw; file = file; recorded = both.1 }
+
+-- what each sink printed, of what the journal gave
+printed_each : {X C F : Type 0} (calls : Calls X C) (contents : F → Option (List ℕ)) (turns : ℕ) (known : Option (List ℕ)) (node : NodeView X C) (begins : Option RecordStart) (sinks : List PrintingView) (lives : LivesFrom calls PrintsLine contents turns known node begins sinks) → PrintedEach sinks lives.took
+printed_each calls contents turns known node begins sinks lives slot s ms at_s at_ms =
+    let (closed, last, seen) = lives.saw slot s ms at_s at_ms in
+    let host = lives.whole.host in
+    let fed : is_page_feed ms ≡ true = ap is_page_feed (host.takes slot ms at_ms) ∙ host.keeps.lawful.gives.feeds slot in
+    (last, seen, prints_whole slot ms s last fed closed seen)
 
 -- and it was that of a new station
 pub lives_with : {F : Type 0} (contents remaining : F → Option (List ℕ)) (options : NodeOptions) (known : Option (List ℕ)) (sinks : List PrintingView) (key : Option (List ℕ)) (seal : Option SealView) (node : MemberNode) (taps : List TapView) (pens : List PenView) (opened : Option F) (begins : Option RecordStart)
@@ -93,6 +112,7 @@ lives_with contents remaining options known sinks key seal node taps pens opened
   new = new;
   begins = begins;
   lives = lives;
+  printed = printed_each member_calls contents options.turns known node begins sinks lives;
   stored =
       subst (λ (b : Bool). IsStoredIf contents b options.seed node.journal.start lives.whole.host.last.journal.entries lives.took) asked
       (stored_if contents opened lives.file options.seed node.journal.start begins lives.whole.host.last.journal.entries lives.took began lives.recorded);

@@ -6,12 +6,12 @@ use Rattle.srm_world.specs.contracts.forgotten.Forgotten as Forgotten
 use Rattle.srm_world.proofs.forgotten.Forgotten.TheLaws.TheKnot as knot
 use Rattle.srm_options.specs.contracts.names.Names as Names
 use Rattle.srm_live.specs.contracts.desk.Desk as Desk
-use Rattle.srm_live.specs.contracts.desk.Passed as Passed
 use Rattle.srm_live.specs.contracts.tally.Tally as Tally
 use Rattle.srm_live.specs.contracts.live_sink.Printing as Printing
+use Rattle.srm_live.specs.contracts.printed.Printed as Printed
 
-passed_send : IsSend Passed.the_row
-passed_send = search (sendable, crosses) depth 40
+printed_send : IsSend Printed.the_row
+printed_send = search (sendable, crosses) depth 40
 
 forgotten_send : (T : RattleType) → IsSend T → IsSend (Forgotten.the_row T)
 forgotten_send T t = search (sendable, crosses, knot.send-Forgotten) depth 20
@@ -35,4 +35,4 @@ desk_sync : (O E : RattleType) → IsSend O → IsSend E → IsSync (Desk.the_ro
 desk_sync O E o e = search (sendable, crosses, names_send, names_sync, tally_send, tally_sync) depth 40 fits 20000
 
 pub printing_send : (R O E : RattleType) → IsSend R → IsSend O → IsSend E → IsSend (Printing.the_row R O E)
-printing_send R O E r o e = search (sendable, crosses, forgotten_send, passed_send, names_send, desk_send, desk_sync) depth 40 fits 20000
+printing_send R O E r o e = search (sendable, crosses, forgotten_send, printed_send, names_send, desk_send, desk_sync) depth 40 fits 20000

@@ -1,5 +1,6 @@
 -- What is typed byte by byte is drawn line by line.
 use Rattle.std.proofs.Common.{◌≡◌, ◌≢◌, ℕ, ◌+◌, ◌<◌, ◌≤◌, Bool, true, false, List, [], ◌∷◌, ◌++◌, length, take, drop, get_or, refl, ap, sym, ◌∙◌, subst, arith}
+use Rattle.std.specs.Bool.{OnTrue}
 use Rattle.std.specs.Prelude.{map, nat_lt, if◌then◌else◌, Option, Some, None, Result, Ok, Err, OnOk, OnErr, IfOk, IfSome, MatchOption}
 use Rattle.std.specs.Io.KnownBytes.{Consumes, Keeps, IsAtEnd}
 use Rattle.std.proofs.lemmas.Bool.{ltb-true, lt-ltb}
@@ -16,14 +17,14 @@ use Rattle.srm_control.specs.Ends.{ControlView}
 use Rattle.srm_live.specs.declared.cut.ReadingEnd.{ReadingEnd}
 use Rattle.srm_live.specs.declared.typed.Typed.{Typed}
 use Rattle.srm_live.specs.declared.typed.Typed.TheVariants.{Stroke, TooLong, Order}
-use Rattle.srm_live.specs.declared.command.Command.TheVariants.{Show, Begin, Pages, Who, Help}
+use Rattle.srm_live.specs.declared.command.Command.TheVariants.{Show, Begin, Pages, Who, Leave, Help}
 use Rattle.srm_live.specs.Commands.{said_of}
 use Rattle.srm_member.specs.Lines.{lines_of, before_first}
 use Rattle.srm_member.specs.Strokes.{stroke_on}
 use Rattle.srm_member.proofs.Splitting.{other}
-use Rattle.srm_live.specs.Asking.{Answers, Place, answer_to, page_after, place_after, HearsBut, Hears, HearsLast}
-use Rattle.srm_live.specs.Typing.{Drawn, pen_stroke, drawn_at, strokes_by, strokes_in, LineContent, with_byte, typed_of, line_after, TypistView, PenSent, SameControl, SameTypist, Stays, Ends, Turns, Does, HasNoEnd, DrawsTyped, DrawsSome, DrawsLast, ReadsOf, SentAllOf, SentPrefixOf}
-use Rattle.srm_live.proofs.Askings.{same_command-itself, hears_none, hears_on, hears_last, hears_first, hears_still, hears_so}
+use Rattle.srm_live.specs.Asking.{Answers, Place, answer_to, asked_by, asked_list, commands_of, page_after, place_after, HearsBut, Hears, HearsLast}
+use Rattle.srm_live.specs.Typing.{Drawn, pen_stroke, drawn_at, is_leave, said_then, said_by, said_in, strokes_by, strokes_in, asked_of, asked_in, LineContent, with_byte, typed_of, line_after, TypistView, PenSent, SameControl, SameTypist, Stays, Ends, Turns, Does, Leaves, DoesOrLeaves, HasNoEnd, DrawsTyped, DrawsLeft, DrawsOrLeaves, DrawsSome, DrawsLast, Reads, ReadsOf, SentAllOf, SentPrefixOf}
+use Rattle.srm_live.proofs.Askings.{same_command-itself, commands-append, hears_none, hears_on, hears_last, hears_first, hears_still, hears_so}
 
 -- THE LINES OF A FRONT AND WHAT IS BEHIND IT
 
@@ -57,25 +58,24 @@ behind_before c (l ∷ ls) = refl
 abbrev at : Page → Answers → Place
 at page answers = record { page = page; answers = answers }
 
-long_line : (place : Place) (l : List ℕ) (ls : List (List ℕ)) → nat_lt LONGEST_BODY (length l) ≡ true → strokes_by (Some place) (l ∷ ls) ≡ strokes_by (Some place) ls
-long_line place l ls long = rw long refl
+long_line : (l : List ℕ) (ls : List (List ℕ)) → nat_lt LONGEST_BODY (length l) ≡ true → said_by (l ∷ ls) ≡ said_by ls
+long_line l ls long = rw long refl
 
--- a prefix that is too long is drawn with nothing behind it
-long_before : (place : Place) (typed_before : List ℕ) (ls : List (List ℕ)) → nat_lt LONGEST_BODY (length typed_before) ≡ true → strokes_by (Some place) (before_lines typed_before ls) ≡ strokes_by (Some place) (drop 1 ls)
-long_before place typed_before [] long = long_line place typed_before [] long
-long_before place typed_before (l ∷ ls) long = long_line place (typed_before ++ l) ls (lt-ltb LONGEST_BODY (length (typed_before ++ l)) (omega (arith, ltb-true LONGEST_BODY (length typed_before) long, length-append typed_before l)))
+-- a prefix that is too long says nothing, whatever is behind it
+long_before : (typed_before : List ℕ) (ls : List (List ℕ)) → nat_lt LONGEST_BODY (length typed_before) ≡ true → said_by (before_lines typed_before ls) ≡ said_by (drop 1 ls)
+long_before typed_before [] long = long_line typed_before [] long
+long_before typed_before (l ∷ ls) long = long_line (typed_before ++ l) ls (lt-ltb LONGEST_BODY (length (typed_before ++ l)) (omega (arith, ltb-true LONGEST_BODY (length typed_before) long, length-append typed_before l)))
 
 -- so one byte more of it changes nothing
-no_room : (place : Place) (typed_before more : List ℕ) (byte : ℕ) → HasNoEnd typed_before → byte ≢ 10 → nat_lt LONGEST_BODY (length typed_before) ≡ true
-    → strokes_by (Some place) (lines_of (typed_before ++ byte ∷ more)) ≡ strokes_by (Some place) (lines_of (typed_before ++ more))
-no_room place [] more byte h not_end long = absurd (omega (arith, ltb-true LONGEST_BODY 0 long))
-no_room place (c ∷ cs) more byte h not_end long =
-    ap (strokes_by (Some place)) (lines_behind c cs (byte ∷ more) h)
-    ∙ long_before place (c ∷ cs) (lines_of (byte ∷ more)) long
-    ∙ ap (λ ls. strokes_by (Some place) (drop 1 ls)) (other byte (lines_of more) not_end)
-    ∙ ap (strokes_by (Some place)) (behind_before byte (lines_of more))
-    ∙ sym (long_before place (c ∷ cs) (lines_of more) long)
-    ∙ sym (ap (strokes_by (Some place)) (lines_behind c cs more h))
+no_room : (typed_before more : List ℕ) (byte : ℕ) → HasNoEnd typed_before → byte ≢ 10 → nat_lt LONGEST_BODY (length typed_before) ≡ true → said_in (typed_before ++ byte ∷ more) ≡ said_in (typed_before ++ more)
+no_room [] more byte h not_end long = absurd (omega (arith, ltb-true LONGEST_BODY 0 long))
+no_room (c ∷ cs) more byte h not_end long =
+    ap said_by (lines_behind c cs (byte ∷ more) h)
+    ∙ long_before (c ∷ cs) (lines_of (byte ∷ more)) long
+    ∙ ap (λ ls. said_by (drop 1 ls)) (other byte (lines_of more) not_end)
+    ∙ ap said_by (behind_before byte (lines_of more))
+    ∙ sym (long_before (c ∷ cs) (lines_of more) long)
+    ∙ sym (ap said_by (lines_behind c cs more h))
 
 -- ONE BYTE
 
@@ -90,31 +90,56 @@ sent_still : (old new : PenView) → new ≡ old → PenSent [] old new
 sent_still old new is = is ∙ sent_none old
 
 pub draws_none : (page : Page) (typed_before : List ℕ) (t : TypistView) → DrawsTyped [] page typed_before t page typed_before t
-draws_none page typed_before t = record { given = []; drawn = []; strokes = λ h later more. refl; one = λ h. h; sent = sent_none t.pen; heard = hears_none t.control }
+draws_none page typed_before t = record { given = []; drawn = []; strokes = λ h later more. refl; asks = λ h more. refl; one = λ h. h; sent = sent_none t.pen; heard = hears_none t.control }
 
 -- a byte that is no line end
 pub draws_byte : (byte : ℕ) (l new : LineContent) (t : TypistView) → byte ≢ 10 → new ≡ with_byte byte l → DrawsTyped (byte ∷ []) l.page l.kept t new.page new.kept t
 draws_byte byte l new t not_end is = subst (λ n. DrawsTyped (byte ∷ []) l.page l.kept t n.page n.kept t) (sym is) (go (nat_lt LONGEST_BODY (length l.kept)) refl)
   where
     go : (b : Bool) → nat_lt LONGEST_BODY (length l.kept) ≡ b → DrawsTyped (byte ∷ []) l.page l.kept t (if b then l else record l { kept = l.kept ++ byte ∷ [] }).page (if b then l else record l { kept = l.kept ++ byte ∷ [] }).kept t
-    go true long = record { given = []; drawn = []; strokes = λ h later more. no_room (at l.page later) l.kept more byte h not_end long; one = λ h. h; sent = sent_none t.pen; heard = hears_none t.control }
+    go true long = record {
+      given = [];
+      drawn = [];
+      strokes = λ h later more. ap (strokes_by (Some (at l.page later))) (no_room l.kept more byte h not_end long);
+      asks = λ h more. ap asked_of (no_room l.kept more byte h not_end long);
+      one = λ h. h;
+      sent = sent_none t.pen;
+      heard = hears_none t.control;
+    }
     go false short = record {
       given = [];
       drawn = [];
       strokes = λ h later more. ap (strokes_in l.page later) (sym (append_assoc l.kept (byte ∷ []) more));
+      asks = λ h more. ap asked_in (sym (append_assoc l.kept (byte ∷ []) more));
       one = λ h. no_end_more l.kept byte h not_end;
       sent = sent_none t.pen;
       heard = hears_none t.control;
     }
 
--- the strokes of a text that begins with a line
-first_strokes : (place : Place) (l : LineContent) (ls : List (List ℕ)) → strokes_by (Some place) (l.kept ∷ ls) ≡ drawn_at place.page (typed_of l) ++ strokes_by (place_after (typed_of l) place) ls
-first_strokes place l ls = go (nat_lt LONGEST_BODY (length l.kept))
+-- the strokes of lines where the first one goes on
+first_strokes : (place : Place) (l : LineContent) (ls : List (List ℕ)) → is_leave (typed_of l) ≡ false → strokes_by (Some place) (said_by (l.kept ∷ ls)) ≡ drawn_at place.page (typed_of l) ++ strokes_by (place_after (typed_of l) place) (said_by ls)
+first_strokes place l ls goes_on = go (nat_lt LONGEST_BODY (length l.kept)) goes_on
   where
-    go : (b : Bool) → (if b then strokes_by (Some place) ls else drawn_at place.page (said_of l.kept) ++ strokes_by (place_after (said_of l.kept) place) ls)
-        ≡ drawn_at place.page (if b then TooLong l.number else said_of l.kept) ++ strokes_by (place_after (if b then TooLong l.number else said_of l.kept) place) ls
-    go true = refl
-    go false = refl
+    go : (b : Bool) → is_leave (if b then TooLong l.number else said_of l.kept) ≡ false → strokes_by (Some place) (if b then said_by ls else said_then (said_of l.kept) (said_by ls))
+        ≡ drawn_at place.page (if b then TooLong l.number else said_of l.kept) ++ strokes_by (place_after (if b then TooLong l.number else said_of l.kept) place) (said_by ls)
+    go true goes_on = refl
+    go false goes_on = ap (λ b. strokes_by (Some place) (if b then [] else said_of l.kept ∷ said_by ls)) goes_on
+
+-- and what they ask for
+first_asks : (l : LineContent) (ls : List (List ℕ)) → is_leave (typed_of l) ≡ false → asked_of (said_by (l.kept ∷ ls)) ≡ asked_list (asked_by (typed_of l)) ++ asked_of (said_by ls)
+first_asks l ls goes_on = go (nat_lt LONGEST_BODY (length l.kept)) goes_on
+  where
+    go : (b : Bool) → is_leave (if b then TooLong l.number else said_of l.kept) ≡ false → asked_of (if b then said_by ls else said_then (said_of l.kept) (said_by ls)) ≡ asked_list (asked_by (if b then TooLong l.number else said_of l.kept)) ++ asked_of (said_by ls)
+    go true goes_on = refl
+    go false goes_on = ap (λ b. asked_of (if b then [] else said_of l.kept ∷ said_by ls)) goes_on
+
+-- lines say nothing where the first tells the member to leave
+left_said : (l : LineContent) (ls : List (List ℕ)) → is_leave (typed_of l) ≡ true → said_by (l.kept ∷ ls) ≡ []
+left_said l ls leave = go (nat_lt LONGEST_BODY (length l.kept)) leave
+  where
+    go : (b : Bool) → is_leave (if b then TooLong l.number else said_of l.kept) ≡ true → (if b then said_by ls else said_then (said_of l.kept) (said_by ls)) ≡ []
+    go true leave = cc
+    go false leave = ap (λ b. if b then [] else said_of l.kept ∷ said_by ls) leave
 
 -- a line end
 draws_end : (l : LineContent) (typed : Typed) (old : TypistView) (turned : Page) (new : TypistView) → typed ≡ typed_of l → Does typed l.page old turned new → DrawsTyped (10 ∷ []) l.page l.kept old turned [] new
@@ -124,9 +149,10 @@ draws_end l typed old turned new is does =
       given = d.given;
       drawn = drawn_at l.page (typed_of l);
       strokes = λ h later more.
-          ap (strokes_by (Some (at l.page (d.given ++ later)))) (line_ends l.kept more h)
-          ∙ first_strokes (at l.page (d.given ++ later)) l (lines_of more)
-          ∙ ap (λ place. drawn_at l.page (typed_of l) ++ strokes_by place (lines_of more)) (d.turns later);
+          ap (λ ls. strokes_by (Some (at l.page (d.given ++ later))) (said_by ls)) (line_ends l.kept more h)
+          ∙ first_strokes (at l.page (d.given ++ later)) l (lines_of more) d.goes_on
+          ∙ ap (λ place. drawn_at l.page (typed_of l) ++ strokes_by place (said_in more)) (d.turns later);
+      asks = λ h more. ap (λ ls. asked_of (said_by ls)) (line_ends l.kept more h) ∙ first_asks l (lines_of more) d.goes_on ∙ ap (λ cs. cs ++ asked_in more) d.asks;
       one = λ h. tt;
       sent = d.sent;
       heard = d.heard;
@@ -141,6 +167,20 @@ draws_line_end byte l after last typed page old turned new end is next page_is d
     let here : DrawsTyped (10 ∷ []) l.page l.kept old turned [] new = draws_end l typed old turned new is (subst (λ p. Does typed p old turned new) at_page does) in
     let there : DrawsTyped (10 ∷ []) l.page l.kept old last.page [] new = subst (λ p. DrawsTyped (10 ∷ []) l.page l.kept old p [] new) (sym (ap (λ (x : LineContent). x.page) noted)) here in
     subst (λ b. DrawsTyped (b ∷ []) l.page l.kept old last.page last.kept new) (sym end) (subst (λ k. DrawsTyped (10 ∷ []) l.page l.kept old last.page k new) (sym kept) there)
+
+-- the line that ends tells the member to leave
+pub draws_leave : (byte : ℕ) (l : LineContent) (typed : Typed) (old new : TypistView) → byte ≡ 10 → typed ≡ typed_of l → Leaves typed old new → DrawsLeft (byte ∷ []) l.page l.kept old new
+draws_leave byte l typed old new end is leaves =
+    let leave : is_leave (typed_of l) ≡ true = ap is_leave (sym is) ∙ leaves.leave in
+    let none : HasNoEnd l.kept → (more : List ℕ) → said_in (l.kept ++ (byte ∷ more)) ≡ [] = λ h more. ap (λ b. said_in (l.kept ++ (b ∷ more))) end ∙ ap said_by (line_ends l.kept more h) ∙ left_said l (lines_of more) leave in
+    record {
+      given = [];
+      drawn = [];
+      strokes = λ h later more. ap (strokes_by (Some (at l.page later))) (none h more);
+      asks = λ h more. ap asked_of (none h more);
+      sent = sent_still old.pen new.pen leaves.stays.pen;
+      heard = leaves.stays.heard;
+    }
 
 -- WHO STAYS
 
@@ -166,6 +206,7 @@ turns_by : (command : PageCommand) (page : Page) (outcome : Result Page PageRefu
 turns_by command page outcome old new pen heard = record {
   given = answer_to command outcome ∷ [];
   turns = λ later. rw (same_command-itself command) refl;
+  asks = refl;
   pen = pen;
   heard = heard;
 }
@@ -177,47 +218,56 @@ pub turns_refused : (command : PageCommand) (page : Page) (refusal : PageRefusal
 turns_refused command page refusal old new pen heard = turns_by command page (Err refusal) old new pen heard
 
 pub does_show : (named page : Page) (old : TypistView) (turned : Page) (new : TypistView) → Turns (commands.Show named) page old turned new → Does (Order (Some (Show named))) page old turned new
-does_show named page old turned new h = record { given = h.given; turns = h.turns; sent = sent_still old.pen new.pen h.pen; heard = h.heard }
+does_show named page old turned new h = record { goes_on = refl; given = h.given; turns = h.turns; asks = h.asks; sent = sent_still old.pen new.pen h.pen; heard = h.heard }
 
 pub does_begin : (page : Page) (old : TypistView) (turned : Page) (new : TypistView) → Turns commands.Begin page old turned new → Does (Order (Some Begin)) page old turned new
-does_begin page old turned new h = record { given = h.given; turns = h.turns; sent = sent_still old.pen new.pen h.pen; heard = h.heard }
+does_begin page old turned new h = record { goes_on = refl; given = h.given; turns = h.turns; asks = h.asks; sent = sent_still old.pen new.pen h.pen; heard = h.heard }
 
 -- one that asks for none
 pub does_no_command : (page : Page) (t : TypistView) → Does (Order None) page t page t
-does_no_command page t = record { given = []; turns = λ later. refl; sent = sent_none t.pen; heard = hears_none t.control }
+does_no_command page t = record { goes_on = refl; given = []; turns = λ later. refl; asks = refl; sent = sent_none t.pen; heard = hears_none t.control }
 
 pub does_pages : (page : Page) (t : TypistView) → Does (Order (Some Pages)) page t page t
-does_pages page t = record { given = []; turns = λ later. refl; sent = sent_none t.pen; heard = hears_none t.control }
+does_pages page t = record { goes_on = refl; given = []; turns = λ later. refl; asks = refl; sent = sent_none t.pen; heard = hears_none t.control }
 
 pub does_who : (page : Page) (t : TypistView) → Does (Order (Some Who)) page t page t
-does_who page t = record { given = []; turns = λ later. refl; sent = sent_none t.pen; heard = hears_none t.control }
+does_who page t = record { goes_on = refl; given = []; turns = λ later. refl; asks = refl; sent = sent_none t.pen; heard = hears_none t.control }
 
 pub does_help : (page : Page) (t : TypistView) → Does (Order (Some Help)) page t page t
-does_help page t = record { given = []; turns = λ later. refl; sent = sent_none t.pen; heard = hears_none t.control }
+does_help page t = record { goes_on = refl; given = []; turns = λ later. refl; asks = refl; sent = sent_none t.pen; heard = hears_none t.control }
 
 -- a line that is too long, or a stroke
 pub does_nothing : (number : ℕ) (page : Page) (t : TypistView) → Does (TooLong number) page t page t
-does_nothing number page t = record { given = []; turns = λ later. refl; sent = sent_none t.pen; heard = hears_none t.control }
+does_nothing number page t = record { goes_on = refl; given = []; turns = λ later. refl; asks = refl; sent = sent_none t.pen; heard = hears_none t.control }
 
 pub does_stroke : (body : List ℕ) (page : Page) (old new : TypistView) → new ≡ record old { pen = record old.pen { sent = old.pen.sent ++ stroke_on page old.pen.number body ∷ [] } } → Does (Stroke body) page old page new
 does_stroke body page old new is = record {
+  goes_on = refl;
   given = [];
   turns = λ later. refl;
+  asks = refl;
   sent = ap (λ (t : TypistView). t.pen) is;
   heard = hears_still old.control new.control (ap (λ (t : TypistView). t.control) is);
 }
 
+-- what tells the member to leave
+pub leaves : (t : TypistView) → Leaves (Order (Some Leave)) t t
+leaves t = record { leave = refl; stays = stays_none t }
+
 -- behind one who stays
-pub does_behind : (r : Result Page ReadingEnd) (typed : Typed) (page : Page) (old mid new : TypistView) → Stays old mid → IfOk r (λ turned. Does typed page mid turned new) → IfOk r (λ turned. Does typed page old turned new)
+pub does_behind : (r : Result (Option Page) ReadingEnd) (typed : Typed) (page : Page) (old mid new : TypistView) → Stays old mid → IfOk r (λ turned. DoesOrLeaves typed page mid turned new) → IfOk r (λ turned. DoesOrLeaves typed page old turned new)
 does_behind (Err e) typed page old mid new h does = tt
-does_behind (Ok turned) typed page old mid new h does = record {
+does_behind (Ok None) typed page old mid new h does = record { leave = does.leave; stays = stays_on old mid new h does.stays }
+does_behind (Ok (Some turned)) typed page old mid new h does = record {
+  goes_on = does.goes_on;
   given = does.given;
   turns = does.turns;
+  asks = does.asks;
   sent = does.sent ∙ ap (λ (p : PenView). record p { sent = p.sent ++ map (pen_stroke p.number) (drawn_at page typed) }) h.pen;
   heard = hears_last 0 does.given old.control mid.control new.control h.heard does.heard;
 }
 
-pub ends_behind : (r : Result Page ReadingEnd) (old mid new : TypistView) → Stays old mid → OnErr r (Ends mid new) → OnErr r (Ends old new)
+pub ends_behind : (r : Result (Option Page) ReadingEnd) (old mid new : TypistView) → Stays old mid → OnErr r (Ends mid new) → OnErr r (Ends old new)
 ends_behind (Ok turned) old mid new h k = tt
 ends_behind (Err e) old mid new h k = record { pen = k.pen ∙ h.pen; heard = hears_last 1 [] old.control mid.control new.control h.heard k.heard }
 
@@ -243,6 +293,12 @@ draws_on a b page typed_before old between begun mid turned left new one two = r
       ∙ one.strokes h (two.given ++ later) (b ++ more)
       ∙ ap (λ t. one.drawn ++ t) (two.strokes (one.one h) later more)
       ∙ sym (append_assoc one.drawn two.drawn (strokes_in turned later (left ++ more)));
+  asks = λ h more.
+      ap (λ t. asked_in (typed_before ++ t)) (append_assoc a b more)
+      ∙ one.asks h (b ++ more)
+      ∙ ap (λ cs. commands_of one.given ++ cs) (two.asks (one.one h) more)
+      ∙ sym (append_assoc (commands_of one.given) (commands_of two.given) (asked_in (left ++ more)))
+      ∙ ap (λ cs. cs ++ asked_in (left ++ more)) (sym (commands-append one.given two.given));
   one = λ h. two.one (one.one h);
   sent = sent_more one.drawn two.drawn old.pen mid.pen new.pen one.sent two.sent;
   heard = hears_on 0 one.given two.given old.control mid.control new.control one.heard two.heard;
@@ -252,6 +308,54 @@ pub draws_more : (bytes : List ℕ) (i byte : ℕ) (page : Page) (typed_before :
     → DrawsTyped (take i bytes) page typed_before old between begun mid → DrawsTyped (byte ∷ []) between begun mid turned left new → DrawsTyped (take (i + 1) bytes) page typed_before old turned left new
 draws_more bytes i byte page typed_before old between begun mid turned left new few is one two =
     subst (λ done. DrawsTyped done page typed_before old turned left new) (ap (λ b. take i bytes ++ b ∷ []) is ∙ sym (take_more bytes i 0 few)) (draws_on (take i bytes) (byte ∷ []) page typed_before old between begun mid turned left new one two)
+
+-- and of the last a line tells the member to leave
+left_on : (a b : List ℕ) (page : Page) (typed_before : List ℕ) (old : TypistView) (between : Page) (begun : List ℕ) (mid new : TypistView) → DrawsTyped a page typed_before old between begun mid → DrawsLeft b between begun mid new → DrawsLeft (a ++ b) page typed_before old new
+left_on a b page typed_before old between begun mid new one two = record {
+  given = one.given ++ two.given;
+  drawn = one.drawn ++ two.drawn;
+  strokes = λ h later more.
+      ap (λ g. strokes_in page g (typed_before ++ ((a ++ b) ++ more))) (append_assoc one.given two.given later)
+      ∙ ap (λ t. strokes_in page (one.given ++ (two.given ++ later)) (typed_before ++ t)) (append_assoc a b more)
+      ∙ one.strokes h (two.given ++ later) (b ++ more)
+      ∙ ap (λ t. one.drawn ++ t) (two.strokes (one.one h) later more);
+  asks = λ h more.
+      ap (λ t. asked_in (typed_before ++ t)) (append_assoc a b more) ∙ one.asks h (b ++ more) ∙ ap (λ cs. commands_of one.given ++ cs) (two.asks (one.one h) more) ∙ sym (commands-append one.given two.given);
+  sent = sent_more one.drawn two.drawn old.pen mid.pen new.pen one.sent two.sent;
+  heard = hears_on 0 one.given two.given old.control mid.control new.control one.heard two.heard;
+}
+
+-- nothing behind that line counts
+left_within : (done rest : List ℕ) (page : Page) (typed_before : List ℕ) (old new : TypistView) → DrawsLeft done page typed_before old new → DrawsLeft (done ++ rest) page typed_before old new
+left_within done rest page typed_before old new h = record {
+  given = h.given;
+  drawn = h.drawn;
+  strokes = λ one later more. ap (λ t. strokes_in page (h.given ++ later) (typed_before ++ t)) (append_assoc done rest more) ∙ h.strokes one later (rest ++ more);
+  asks = λ one more. ap (λ t. asked_in (typed_before ++ t)) (append_assoc done rest more) ∙ h.asks one (rest ++ more);
+  sent = h.sent;
+  heard = h.heard;
+}
+
+pub draws_left : (bytes : List ℕ) (i byte : ℕ) (page : Page) (typed_before : List ℕ) (old : TypistView) (between : Page) (begun : List ℕ) (mid new : TypistView) → i < length bytes → byte ≡ get_or bytes i 0 → DrawsTyped (take i bytes) page typed_before old between begun mid
+    → DrawsLeft (byte ∷ []) between begun mid new → DrawsLeft bytes page typed_before old new
+draws_left bytes i byte page typed_before old between begun mid new few is one two =
+    subst (λ all. DrawsLeft all page typed_before old new)
+    (ap (λ done. done ++ drop (i + 1) bytes) (ap (λ b. take i bytes ++ b ∷ []) is ∙ sym (take_more bytes i 0 few)) ∙ take-append-drop (i + 1) bytes)
+    (left_within (take i bytes ++ byte ∷ []) (drop (i + 1) bytes) page typed_before old new (left_on (take i bytes) (byte ∷ []) page typed_before old between begun mid new one two))
+
+-- where that is said
+pub typed_if : (b : Bool) (bytes : List ℕ) (page : Page) (typed_before : List ℕ) (old : TypistView) (turned : Page) (begun : List ℕ) (new : TypistView) → DrawsOrLeaves b bytes page typed_before old turned begun new → b ≡ true → DrawsTyped bytes page typed_before old turned begun new
+typed_if true bytes page typed_before old turned begun new draws is = draws
+typed_if false bytes page typed_before old turned begun new draws is = cc
+
+pub left_if : (b : Bool) (bytes : List ℕ) (page : Page) (typed_before : List ℕ) (old : TypistView) (turned : Page) (begun : List ℕ) (new : TypistView) → DrawsOrLeaves b bytes page typed_before old turned begun new → b ≡ false → DrawsLeft bytes page typed_before old new
+left_if false bytes page typed_before old turned begun new draws is = draws
+left_if true bytes page typed_before old turned begun new draws is = cc
+
+-- what holds in any case holds of an error
+pub if_err : {T E : Type 0} (r : Result T E) {P : Type 0} → P → OnErr r P
+if_err (Ok _) p = tt
+if_err (Err _) p = p
 
 -- some of these bytes, and nothing more
 pub draws_some : (bytes : List ℕ) (i : ℕ) (page : Page) (typed_before : List ℕ) (old : TypistView) (turned : Page) (begun : List ℕ) (mid new : TypistView) → DrawsTyped (take i bytes) page typed_before old turned begun mid → Ends mid new → DrawsSome bytes page typed_before old new
@@ -272,12 +376,17 @@ draws_all bytes i page typed_before old turned begun new all h = subst (λ done.
 
 -- A TEXT THAT IS READ
 
+last_line : (kept : List ℕ) → kept ≢ [] → HasNoEnd kept → lines_of (kept ++ []) ≡ kept ∷ []
+last_line [] some h = absurd (some refl)
+last_line (c ∷ cs) some h = lines_behind c cs [] h
+
 -- the last line, which lacks its end
 draws_last : (l : LineContent) (typed : Typed) (old : TypistView) (turned : Page) (new : TypistView) → l.kept ≢ [] → typed ≡ typed_of l → Does typed l.page old turned new → DrawsLast l.page l.kept old new
 draws_last l typed old turned new some is does = record {
   given = d.given;
   drawn = drawn_at l.page (typed_of l);
-  strokes = λ h later. last l.kept refl h later;
+  strokes = λ h later. last h later;
+  asks = λ h. ap (λ ls. asked_of (said_by ls)) (last_line l.kept some h) ∙ first_asks l [] d.goes_on ∙ append-nil (asked_list (asked_by (typed_of l))) ∙ d.asks;
   sent = d.sent;
   heard = d.heard;
 }
@@ -285,25 +394,34 @@ draws_last l typed old turned new some is does = record {
     d : Does (typed_of l) l.page old turned new
     d = subst (λ t. Does t l.page old turned new) is does
 
-    last : (typed_before : List ℕ) → l.kept ≡ typed_before → HasNoEnd l.kept → (later : Answers) → strokes_in l.page (d.given ++ later) (l.kept ++ []) ≡ drawn_at l.page (typed_of l)
-    last [] none h later = absurd (some none)
-    last (c ∷ cs) is h later =
-        let here : lines_of (l.kept ++ []) ≡ l.kept ∷ [] = rw is (lines_behind c cs [] (subst HasNoEnd is h)) in
-        ap (strokes_by (Some (at l.page (d.given ++ later)))) here
-        ∙ first_strokes (at l.page (d.given ++ later)) l []
+    last : HasNoEnd l.kept → (later : Answers) → strokes_in l.page (d.given ++ later) (l.kept ++ []) ≡ drawn_at l.page (typed_of l)
+    last h later =
+        ap (λ ls. strokes_by (Some (at l.page (d.given ++ later))) (said_by ls)) (last_line l.kept some h)
+        ∙ first_strokes (at l.page (d.given ++ later)) l [] d.goes_on
         ∙ ap (λ place. drawn_at l.page (typed_of l) ++ strokes_by place []) (d.turns later)
         ∙ append-nil (drawn_at l.page (typed_of l))
 
 -- the same, as the line is taken
-pub draws_last_line : (l after : LineContent) (typed : Typed) (page : Page) (old : TypistView) (turned : Page) (new : TypistView) → l.kept ≢ [] → typed ≡ typed_of l → after ≡ line_after l → page ≡ after.page → Does typed page old turned new → DrawsLast l.page l.kept old new
-draws_last_line l after typed page old turned new some is next page_is does = draws_last l typed old turned new some is (subst (λ p. Does typed p old turned new) (page_is ∙ ap (λ (x : LineContent). x.page) next) does)
+pub draws_last_line : (l after : LineContent) (typed : Typed) (page : Page) (old : TypistView) (turned : Option Page) (new : TypistView) → l.kept ≢ [] → typed ≡ typed_of l → after ≡ line_after l → page ≡ after.page → DoesOrLeaves typed page old turned new → DrawsLast l.page l.kept old new
+draws_last_line l after typed page old (Some turned) new some is next page_is does = draws_last l typed old turned new some is (subst (λ p. Does typed p old turned new) (page_is ∙ ap (λ (x : LineContent). x.page) next) does)
+draws_last_line l after typed page old None new some is next page_is left =
+    let leave : is_leave (typed_of l) ≡ true = ap is_leave (sym is) ∙ left.leave in
+    let none : HasNoEnd l.kept → said_in (l.kept ++ []) ≡ [] = λ h. ap said_by (last_line l.kept some h) ∙ left_said l [] leave in
+    record {
+      given = [];
+      drawn = [];
+      strokes = λ h later. ap (strokes_by (Some (at l.page later))) (none h);
+      asks = λ h. ap asked_of (none h);
+      sent = sent_still old.pen new.pen left.stays.pen;
+      heard = left.stays.heard;
+    }
 
 pub draws_no_last : (page : Page) (typed_before : List ℕ) (t : TypistView) → typed_before ≡ [] → DrawsLast page typed_before t t
-draws_no_last page typed_before t none = record { given = []; drawn = []; strokes = λ h later. ap (λ f. strokes_in page later (f ++ [])) none; sent = sent_none t.pen; heard = hears_none t.control }
+draws_no_last page typed_before t none = record { given = []; drawn = []; strokes = λ h later. ap (λ f. strokes_in page later (f ++ [])) none; asks = λ h. ap (λ f. asked_in (f ++ [])) none; sent = sent_none t.pen; heard = hears_none t.control }
 
 pub reads_none : (known : Option (List ℕ)) (t : TypistView) → ReadsOf known known first_page [] t t
 reads_none None t = tt
-reads_none (Some text) t = record { rest = text; left_is = refl; given = []; drawn = []; strokes = λ later. refl; one = tt; sent = sent_none t.pen; heard = hears_none t.control }
+reads_none (Some text) t = record { rest = text; left_is = refl; given = []; drawn = []; strokes = λ later. refl; asks = refl; one = tt; sent = sent_none t.pen; heard = hears_none t.control }
 
 -- nothing is drawn yet
 pub prefix_none : (known : Option (List ℕ)) (t : TypistView) → SentPrefixOf known t t
@@ -323,6 +441,11 @@ prefix_stays (Some text) old mid new (answers, left, h) k = (
     heard = hears_first 1 answers old.control mid.control new.control h.heard k.heard;
   },
 )
+
+pub all_stays : (b : Bool) (known : Option (List ℕ)) (old mid new : TypistView) → OnTrue b (SentAllOf known old mid) → Stays mid new → OnTrue b (SentAllOf known old new)
+all_stays false known old mid new h k = tt
+all_stays true None old mid new h k = tt
+all_stays true (Some text) old mid new h k = record { answers = h.answers; asked = h.asked; sent = k.pen ∙ h.sent; heard = hears_first 0 h.answers old.control mid.control new.control h.heard k.heard }
 
 -- WHO DRAWS
 
@@ -357,6 +480,9 @@ same_typed bytes page typed_before old mid turned begun new h draws = same_sent 
 pub same_some : (bytes : List ℕ) (page : Page) (typed_before : List ℕ) (old mid new : TypistView) → SameTypist old mid → DrawsSome bytes page typed_before mid new → SameTypist old new
 same_some bytes page typed_before old mid new h some = same_ends old some.between new (same_typed some.done page typed_before old mid some.turned some.begun some.between h some.draws) some.ends
 
+pub same_left : (bytes : List ℕ) (page : Page) (typed_before : List ℕ) (old mid new : TypistView) → SameTypist old mid → DrawsLeft bytes page typed_before mid new → SameTypist old new
+same_left bytes page typed_before old mid new h left = same_sent 0 left.drawn left.given old mid new h left.sent left.heard
+
 -- of the last line
 pub same_last : {T E : Type 0} (r : Result T E) (page : Page) (typed_before : List ℕ) (old mid new : TypistView) → SameTypist old mid → OnOk r (DrawsLast page typed_before mid new) → OnErr r (Ends mid new) → SameTypist old new
 same_last (Ok _) page typed_before old mid new h last cut = same_sent 0 last.drawn last.given old mid new h last.sent last.heard
@@ -385,6 +511,12 @@ reads_more (Some text) left after bytes page begun old mid turned next new h too
           ∙ ap (λ t. h.drawn ++ strokes_in page (draws.given ++ later) (begun ++ t)) r.2
           ∙ ap (λ t. h.drawn ++ t) (draws.strokes h.one later r.0)
           ∙ sym (append_assoc h.drawn draws.drawn (strokes_in turned later (next ++ r.0)));
+      asks =
+          h.asks
+          ∙ ap (λ t. commands_of h.given ++ asked_in (begun ++ t)) r.2
+          ∙ ap (λ cs. commands_of h.given ++ cs) (draws.asks h.one r.0)
+          ∙ sym (append_assoc (commands_of h.given) (commands_of draws.given) (asked_in (next ++ r.0)))
+          ∙ ap (λ cs. cs ++ asked_in (next ++ r.0)) (sym (commands-append h.given draws.given));
       one = draws.one h.one;
       sent = sent_more h.drawn draws.drawn old.pen mid.pen new.pen h.sent draws.sent;
       heard = hears_on 0 h.given draws.given old.control mid.control new.control h.heard draws.heard;
@@ -404,6 +536,7 @@ reads_then_stays (Some text) left after page begun old mid new h kept k = record
   given = h.given;
   drawn = h.drawn;
   strokes = h.strokes;
+  asks = h.asks;
   one = h.one;
   sent = k.pen ∙ h.sent;
   heard = hears_first 0 h.given old.control mid.control new.control h.heard k.heard;
@@ -458,23 +591,48 @@ at_end (Some xs) rest is end =
 reads_all : (known left : Option (List ℕ)) (page : Page) (begun : List ℕ) (old mid new : TypistView) → ReadsOf known left page begun old mid → IsAtEnd left → DrawsLast page begun mid new → SentAllOf known old new
 reads_all None left page begun old mid new h end last = tt
 reads_all (Some text) left page begun old mid new h end last =
-    let none : h.rest ≡ [] = at_end left h.rest h.left_is end in (
-      h.given ++ (last.given ++ []),
-      record {
-        drawn = h.drawn ++ last.drawn;
-        split =
-            h.strokes (last.given ++ [])
-            ∙ ap (λ t. h.drawn ++ strokes_in page (last.given ++ []) (begun ++ t)) none
-            ∙ ap (λ t. h.drawn ++ t) (last.strokes h.one [])
-            ∙ sym (append-nil (h.drawn ++ last.drawn));
-        sent = sent_more h.drawn last.drawn old.pen mid.pen new.pen h.sent last.sent;
-        heard = hears_on 1 h.given (last.given ++ []) old.control mid.control new.control h.heard (hears_on 1 last.given [] mid.control new.control new.control last.heard (hears_so [] new.control new.control (hears_none new.control)));
-      },
-    )
+    let none : h.rest ≡ [] = at_end left h.rest h.left_is end in
+    let drawn : strokes_in first_page (h.given ++ last.given) text ≡ h.drawn ++ last.drawn =
+    ap (λ g. strokes_in first_page (h.given ++ g) text) (sym (append-nil last.given))
+    ∙ h.strokes (last.given ++ [])
+    ∙ ap (λ t. h.drawn ++ strokes_in page (last.given ++ []) (begun ++ t)) none
+    ∙ ap (λ t. h.drawn ++ t) (last.strokes h.one []) in
+    record {
+      answers = h.given ++ last.given;
+      asked = h.asks ∙ ap (λ t. commands_of h.given ++ asked_in (begun ++ t)) none ∙ ap (λ cs. commands_of h.given ++ cs) (last.asks h.one) ∙ sym (commands-append h.given last.given);
+      sent = subst (λ (ds : List Drawn). PenSent ds old.pen new.pen) (sym drawn) (sent_more h.drawn last.drawn old.pen mid.pen new.pen h.sent last.sent);
+      heard = hears_on 0 h.given last.given old.control mid.control new.control h.heard last.heard;
+    }
+
+-- of these bytes a line tells the member to leave
+reads_left : (known left after : Option (List ℕ)) (bytes : List ℕ) (page : Page) (begun : List ℕ) (old mid new : TypistView) → ReadsOf known left page begun old mid → Consumes left after bytes → DrawsLeft bytes page begun mid new → SentAllOf known old new
+reads_left None left after bytes page begun old mid new h took draws = tt
+reads_left (Some text) left after bytes page begun old mid new h took draws =
+    let r = rest_is left after bytes h.rest h.left_is took in
+    let drawn : strokes_in first_page (h.given ++ draws.given) text ≡ h.drawn ++ draws.drawn =
+    ap (λ g. strokes_in first_page (h.given ++ g) text) (sym (append-nil draws.given))
+    ∙ h.strokes (draws.given ++ [])
+    ∙ ap (λ t. h.drawn ++ strokes_in page (draws.given ++ []) (begun ++ t)) r.2
+    ∙ ap (λ t. h.drawn ++ t) (draws.strokes h.one [] r.0) in
+    record {
+      answers = h.given ++ draws.given;
+      asked = h.asks ∙ ap (λ t. commands_of h.given ++ asked_in (begun ++ t)) r.2 ∙ ap (λ cs. commands_of h.given ++ cs) (draws.asks h.one r.0) ∙ sym (commands-append h.given draws.given);
+      sent = subst (λ (ds : List Drawn). PenSent ds old.pen new.pen) (sym drawn) (sent_more h.drawn draws.drawn old.pen mid.pen new.pen h.sent draws.sent);
+      heard = hears_on 0 h.given draws.given old.control mid.control new.control h.heard draws.heard;
+    }
 
 prefix_of_all : (known : Option (List ℕ)) (old new : TypistView) → SentAllOf known old new → SentPrefixOf known old new
 prefix_of_all None old new h = tt
-prefix_of_all (Some text) old new h = (h.0, [], h.1)
+prefix_of_all (Some text) old new h = (
+  h.answers,
+  [],
+  record {
+    drawn = strokes_in first_page h.answers text;
+    split = sym (append-nil (strokes_in first_page h.answers text));
+    sent = h.sent;
+    heard = hears_so h.answers old.control new.control h.heard;
+  },
+)
 
 -- A READ
 
@@ -496,6 +654,13 @@ read_none known left after some buffer page begun old mid new h took is stays = 
 pub read_drawn : (known left after : Option (List ℕ)) (some : Option ℕ) (n : ℕ) (buffer : List ℕ) (page : Page) (begun : List ℕ) (old mid : TypistView) (turned : Page) (next : List ℕ) (new : TypistView) → ReadsOf known left page begun old mid → Took some buffer left after
     → some ≡ Some n → DrawsTyped (take n buffer) page begun mid turned next new → ReadsOf known after turned next old new
 read_drawn known left after some n buffer page begun old mid turned next new h took is draws = reads_more known left after (take n buffer) page begun old mid turned next new h (took_bytes some n buffer left after took is) draws
+
+-- so many were read, and a line among them tells the member to leave
+pub read_left : (known left after : Option (List ℕ)) (some : Option ℕ) (n : ℕ) (buffer : List ℕ) (page : Page) (begun : List ℕ) (old mid new : TypistView) → ReadsOf known left page begun old mid → Took some buffer left after → some ≡ Some n → DrawsLeft (take n buffer) page begun mid new
+    → SentAllOf known old new × SentPrefixOf known old new
+read_left known left after some n buffer page begun old mid new h took is draws =
+    let all = reads_left known left after (take n buffer) page begun old mid new h (took_bytes some n buffer left after took is) draws in
+    (all, prefix_of_all known old new all)
 
 -- so many were read, and some of them drawn
 pub read_cut : (known left after : Option (List ℕ)) (some : Option ℕ) (n : ℕ) (buffer : List ℕ) (page : Page) (begun : List ℕ) (old mid new : TypistView) → ReadsOf known left page begun old mid → Took some buffer left after → some ≡ Some n

@@ -29,6 +29,15 @@ asked_by (Order (Some (Show page))) = Some (commands.Show page)
 asked_by (Order (Some Begin)) = Some commands.Begin
 asked_by _ = None
 
+-- the same as a list
+abbrev pub asked_list : Option PageCommand → List PageCommand
+asked_list None = []
+asked_list (Some command) = command ∷ []
+
+-- what these are the answers to, in order
+abbrev pub commands_of : Answers → List PageCommand
+commands_of answers = map (λ (a : PageAnswer). a.command) answers
+
 -- the page where who types stands behind an answer: the one that is shown, or the one of before
 abbrev pub page_after : Page → Result Page PageRefusal → Page
 page_after page (Ok shown) = shown
@@ -65,7 +74,7 @@ begins (commands.Show page ∷ cs) = begins cs
 begins (commands.Begin ∷ cs) = begins cs + 1
 
 abbrev pub begins_in : Answers → ℕ
-begins_in answers = begins (map (λ (a : PageAnswer). a.command) answers)
+begins_in answers = begins (commands_of answers)
 
 -- a control took more answers, and among them are these
 pub record Takes (some : Answers) (old new : ControlView) : Type 0 where

@@ -10,13 +10,18 @@ use Rattle.srm_live.specs.Commands.{said_of, page_in}
 use Rattle.srm_live.specs.Readable.{readable_text}
 use Rattle.srm_live.specs.Claims.{claims_of, is_beyond}
 use Rattle.srm_codec.specs.declared.datagram.Datagram.TheVariants.{Session}
+use Rattle.srm_codec.specs.declared.fault.DecodeFault.TheVariants as decoding
+use Rattle.srm_entries.specs.declared.cause.Cause.TheVariants.{Decode, Stranger}
+use Rattle.srm_entries.specs.declared.entry.Verdict.TheVariants.{Ignored}
+use Rattle.srm_live.specs.declared.signs.Sign.TheVariants.{OtherSession, TooLong}
+use Rattle.srm_live.specs.Signs.{sign_of, is_unheard}
 use Rattle.srm_live.specs.declared.presence.Standing.TheVariants.{Here, Left, Silent}
 use Rattle.srm_live.specs.News.{news_of}
 use Rattle.srm_control.specs.declared.command.PageCommand.TheVariants as commands
 use Rattle.srm_control.specs.declared.command.PageRefusal.TheVariants.{NoSlot}
 use Rattle.srm_control.specs.declared.command.PageAnswer.{PageAnswer}
 use Rattle.srm_live.specs.Asking.{Answers, Place, answer_to, same_command, asked_by, AreAmong, begins, begins_in}
-use Rattle.srm_live.specs.Typing.{strokes_by, strokes_in, with_byte, typed_of, line_after}
+use Rattle.srm_live.specs.Typing.{said_by, strokes_by, strokes_in, asked_in, with_byte, typed_of, line_after}
 
 abbrev page_of_one : Page
 page_of_one = record { creator = 1; number = 2 }
@@ -27,10 +32,10 @@ at_first = Some (record { page = first_page; answers = [] })
 what_is_drawn_of_a_text : strokes_in first_page [] (97 ∷ 10 ∷ 10 ∷ 98 ∷ []) ≡ (first_page, 97 ∷ []) ∷ (first_page, []) ∷ (first_page, 98 ∷ []) ∷ []
 what_is_drawn_of_a_text = refl
 
-a_line_that_is_too_long_is_left_out : strokes_by at_first ((97 ∷ []) ∷ replicate 1025 99 ∷ (98 ∷ []) ∷ []) ≡ (first_page, 97 ∷ []) ∷ (first_page, 98 ∷ []) ∷ []
+a_line_that_is_too_long_is_left_out : strokes_by at_first (said_by ((97 ∷ []) ∷ replicate 1025 99 ∷ (98 ∷ []) ∷ [])) ≡ (first_page, 97 ∷ []) ∷ (first_page, 98 ∷ []) ∷ []
 a_line_that_is_too_long_is_left_out = refl
 
-the_longest_line_is_drawn : map (λ d. length d.1) (strokes_by at_first (replicate 1024 99 ∷ [])) ≡ 1024 ∷ []
+the_longest_line_is_drawn : map (λ d. length d.1) (strokes_by at_first (said_by (replicate 1024 99 ∷ []))) ≡ 1024 ∷ []
 the_longest_line_is_drawn = refl
 
 a_byte_more : with_byte 98 (record { number = 3; page = first_page; kept = 97 ∷ [] }) ≡ record { number = 3; page = first_page; kept = 97 ∷ 98 ∷ [] }
@@ -88,6 +93,16 @@ pages_that_are_shown_and_refused = refl
 
 a_page_that_is_begun : strokes_in first_page begun_one (codes "/new" ++ 10 ∷ codes "b") ≡ (page_of_one, codes "b") ∷ []
 a_page_that_is_begun = refl
+
+-- a member that is to leave draws nothing more, and asks for nothing
+nothing_is_said_behind_leave : said_by (codes "a" ∷ codes "/leave" ∷ codes "b" ∷ codes "/new" ∷ []) ≡ Stroke (codes "a") ∷ []
+nothing_is_said_behind_leave = refl
+
+nothing_is_drawn_behind_leave : strokes_in first_page [] (codes "a" ++ 10 ∷ codes "/leave" ++ 10 ∷ codes "b") ≡ (first_page, codes "a") ∷ []
+nothing_is_drawn_behind_leave = refl
+
+what_a_text_asks_for : asked_in (codes "/page 1.2" ++ 10 ∷ codes "a" ++ 10 ∷ codes "/who" ++ 10 ∷ codes "/new" ++ 10 ∷ codes "/leave" ++ 10 ∷ codes "/new") ≡ commands.Show page_of_one ∷ commands.Begin ∷ []
+what_a_text_asks_for = refl
 
 -- without an answer, or with one to another command
 nothing_is_drawn_behind_a_command_without_its_answer : strokes_in first_page [] (codes "a" ++ 10 ∷ codes "/new" ++ 10 ∷ codes "b") ≡ (first_page, codes "a") ∷ []
@@ -149,3 +164,18 @@ who_is_heard_after_silence_is_here_again = refl
 
 who_left_is_not_here_again : news_of Left Here ≡ None
 who_left_is_not_here_again = refl
+
+-- SIGNS
+
+what_noise_tells : map sign_of (Ignored (Decode decoding.Session) ∷ Ignored (Decode decoding.Length) ∷ Ignored (Decode decoding.Magic) ∷ Ignored Stranger ∷ []) ≡ Some OtherSession ∷ Some TooLong ∷ None ∷ None ∷ []
+what_noise_tells = refl
+
+-- of two members one heard nobody, just before ten seconds and then
+nobody_is_heard_for_ten_seconds : map (is_unheard 2 0) (9999999 ∷ 10000000 ∷ []) ≡ false ∷ true ∷ []
+nobody_is_heard_for_ten_seconds = refl
+
+who_heard_another_is_not_told : is_unheard 2 1 10000000 ≡ false
+who_heard_another_is_not_told = refl
+
+who_is_alone_is_not_told : is_unheard 1 0 10000000 ≡ false
+who_is_alone_is_not_told = refl

@@ -14,5 +14,7 @@ pub mod News
 pub mod PageCodes
 pub mod PresenceExamples
 pub mod Readable
+pub mod RunExamples
+pub mod Signs
 pub mod Standings
 pub mod Typing

@@ -18,26 +18,25 @@ use Rattle.srm_world.specs.RecordStarts.{RecordStart}
 use Rattle.srm_record.specs.Begun.{IsRecorded}
 use Rattle.srm_member.specs.MemberRuns.{IsStoredIf, member_calls}
 use Rattle.srm_member.specs.Stations.{IsNewStation}
-use Rattle.srm_member.specs.WholeRuns.{SawEach}
-use Rattle.srm_live.specs.LiveLines.{PrintingView, PrintsLine, new_printing}
-use Rattle.srm_live.specs.LiveRuns.{IsWholeLiveRun}
+use Rattle.srm_live.specs.LiveLines.{PrintingView, PrintsLine, PrintedEach, new_printing}
+use Rattle.srm_live.specs.LiveRuns.{IsWholeLiveRun, SawWhole}
 
 abbrev pub MemberNode : Type 0
 MemberNode = NodeView (RestedView (GuardView UdpView)) ClockView
 
--- A node got a control and ran to its end, as did its workers and the producer that drew what was typed. These sinks saw what the workers took. The file of its record, if it has one,
+-- A node got a control and ran to its end, as did its workers and the producer that drew what was typed. These sinks saw all that the workers took. The file of its record, if it has one,
 -- has all of it.
 pub record LivesFrom {X C S F : Type 0} (calls : Calls X C) (Sees : S → ℕ → PageMsg → Bool → S → Type 0) (contents : F → Option (List ℕ)) (turns : ℕ) (known : Option (List ℕ)) (node : NodeView X C) (begins : Option RecordStart) (sinks : List S) : Type 0 where
   pub commands : CommandsView
   pub fresh : commands ≡ new_commands commands.out commands.back
   pub took : List (List PageMsg)
   pub whole : IsWholeLiveRun calls turns known (record node { control = Some commands }) took
-  pub saw : SawEach Sees sinks took
+  pub saw : SawWhole Sees sinks took
   pub file : Option F
   pub recorded : IsRecorded contents begins whole.host.last.journal.entries took file
 
 -- A member with these options ran so over its own wire, with a key if they name a file of one, which is all of it, and a new seal by the key. It was to leave as soon as its producers were done, and was none before. Its
--- sinks passed on the lines of what they saw. Its record is stored, if they name a file for it.
+-- sinks printed the lines of all that its workers took. Its record is stored, if they name a file for it.
 pub record LivesWith {F : Type 0} (contents remaining : F → Option (List ℕ)) (options : NodeOptions) (known : Option (List ℕ)) (sinks : List PrintingView) : Type 0 where
   pub key : Option (List ℕ)
   pub keyed : is_some key ≡ is_some options.guard.key
@@ -50,9 +49,10 @@ pub record LivesWith {F : Type 0} (contents remaining : F → Option (List ℕ))
   pub new : IsNewStation options.config 0 options.guard.most_missing None (new_rested (guarded_wire options.addresses.items options.guard seal)) node taps pens
   pub begins : Option RecordStart
   pub lives : LivesFrom member_calls PrintsLine contents options.turns known node begins sinks
+  pub printed : PrintedEach sinks lives.took
   pub stored : IsStoredIf contents (is_some options.«record») options.seed node.journal.start lives.whole.host.last.journal.entries lives.took
 
--- And its sinks, one for each page slot, had passed on nothing before.
+-- And its sinks, one for each page slot, had printed nothing before.
 pub record LivesWhole {F : Type 0} (contents remaining : F → Option (List ℕ)) (options : NodeOptions) (known : Option (List ℕ)) : Type 0 where
   pub sinks : List PrintingView
   pub count : length sinks ≡ PAGES

@@ -12,8 +12,6 @@ use std::alloc::AllocError;
 pub enum ReadingEnd {
     /// The output is closed or the node has ended: nothing more is drawn.
     Closed,
-    /// Who types said that the member is to leave.
-    Left,
     /// The input failed, or memory ran out.
     Fault(ScriptFault),
 }

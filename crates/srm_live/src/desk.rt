@@ -1,12 +1,12 @@
 //! What the threads of a live member share: where it prints, what it counts, and what befell it.
 
-ghost use Rattle.std.specs.Prelude.{◌≡◌, ◌≤◌, string_bytes, OnOk};
-ghost use Rattle.std.specs.Io.KnownBytes.{Appends};
+ghost use Rattle.std.specs.Prelude.{◌≡◌, ◌≤◌, string_bytes, IfSome};
 ghost use Rattle.srm_live.specs.declared.live_fault.TheConstants.{WAS_BEFORE};
 ghost use Rattle.srm_live.specs.LiveStatuses.{status_of_live};
 
 use crate::error_stream::ErrorStream;
 use crate::live_fault::LiveFault;
+use crate::printed::Printed;
 use crate::tally::Tally;
 use crate::teller::Teller;
 use crate::title::Title;
@@ -16,25 +16,9 @@ use srm_names::Member;
 use srm_options::{Called, Names};
 use srm_script::{PrintedGone, ScriptFault};
 use std::alloc::{AllocError, Global};
-use std::io;
 use std::io::{IsTerminal, Write};
-use std::marker::Model;
 use std::sync::atomic::{AtomicBool, Ordering};
 use std::sync::{Arc, Mutex, Wait};
-
-/// A line that was passed to a desk, which prints it. Contracts see its bytes.
-#[derive(Drop)]
-pub struct Passed {
-    line: String,
-}
-
-impl Model for Passed {
-    ghost use Rattle.std.specs.Prelude.{ℕ, List, string_bytes};
-
-    ghost Value = { List ℕ };
-
-    ghost view = { λ p. string_bytes p.line };
-}
 
 /// The streams that a live member prints to, what it counts, and what befell it so far.
 #[derive(Drop)]
@@ -48,6 +32,8 @@ pub struct Desk<O, E> {
     // Whether standard error is a terminal.
     has_terminal: bool,
     ended: AtomicBool,
+    // Whether nothing more is printed.
+    closed: AtomicBool,
     lacks_memory: AtomicBool,
     output_failed: AtomicBool,
     input_failed: AtomicBool,
@@ -70,6 +56,7 @@ impl<O: Write, E: Write> Desk<O, E> {
             err: Mutex::new(ErrorStream::new(err)),
             has_terminal,
             ended: AtomicBool::new(false),
+            closed: AtomicBool::new(false),
             lacks_memory: AtomicBool::new(false),
             output_failed: AtomicBool::new(false),
             input_failed: AtomicBool::new(false),
@@ -80,27 +67,26 @@ impl<O: Write, E: Write> Desk<O, E> {
     pub fn print_gone<R: Wait>(&self, rt: &R) {
         match format!(in self.alloc; "gone {}\n", self.called(self.config.me())) {
             Ok(line) => {
-                self.print_line(rt, line);
+                let _ = self.print_line(rt, line);
             }
             Err(_) => self.note(&ScriptFault::Memory),
         }
     }
 
-    /// Prints a line, which has its line end, at once and whole, unless an earlier one couldn't be printed. Nobody else makes a [`Passed`].
-    pub fn print_line<R: Wait>(&self, rt: &R, line: String) -> Passed
-        ensures { result ≡ string_bytes line }
+    /// Prints a line, which has its line end, at once and whole. Returns `None` if an earlier one couldn't be printed, or this one can't be, which is noted.
+    pub fn print_line<R: Wait>(&self, rt: &R, line: String) -> Option<Printed>
+        ensures { IfSome result (λ printed. printed ≡ string_bytes line) }
     {
-        if !self.is_closed() {
-            self.put_line(rt, line.as_str());
-        }
-        Passed { line }
-    }
-
-    fn put_line<R: Wait>(&self, rt: &R, line: &str) {
         let mut out = self.out.lock(rt);
-        if put(&mut *out, line).is_err() {
+        // Looked at while no other thread prints, so that nothing stands behind a part of a line.
+        if self.closed.load(Ordering::SeqCst) {
+            return None;
+        }
+        let printed = Printed::on(&mut *out, line);
+        if printed.is_none() {
             self.note(&ScriptFault::Output);
         }
+        printed
     }
 
     /// Tells that a line isn't drawn. The member goes on.
@@ -127,8 +113,10 @@ impl<O: Write, E: Write> Desk<O, E> {
             ScriptFault::Output => self.output_failed.store(true, Ordering::SeqCst),
             ScriptFault::StandardInput | ScriptFault::TooLong | ScriptFault::BadLine(_) => {
                 self.input_failed.store(true, Ordering::SeqCst);
+                return;
             }
         }
+        self.closed.store(true, Ordering::SeqCst);
     }
 
     /// Returns the first of these that was noted: out of memory, an output that failed, an input that failed.
@@ -161,10 +149,7 @@ impl<O: Write, E: Write> Desk<O, E> {
 
     /// Returns what the member counts, if there was memory for it.
     pub fn tally(&self) -> Option<&Tally> {
-        match &self.tally {
-            Some(tally) => Some(tally),
-            None => None,
-        }
+        self.tally.as_deref()
     }
 
     /// Returns the same for another thread; `None` if out of memory.
@@ -177,12 +162,7 @@ impl<O: Write, E: Write> Desk<O, E> {
 
     /// Returns whether nothing more is drawn: nothing more is printed, or the node has ended.
     pub fn is_over(&self) -> bool {
-        self.is_closed() || self.ended.load(Ordering::SeqCst)
-    }
-
-    // Whether nothing more is printed.
-    fn is_closed(&self) -> bool {
-        self.lacks_memory.load(Ordering::SeqCst) || self.output_failed.load(Ordering::SeqCst)
+        self.closed.load(Ordering::SeqCst) || self.ended.load(Ordering::SeqCst)
     }
 
     /// Says that the node has ended.
@@ -231,11 +211,4 @@ impl<O: Write, E: Write> Teller for Desk<O, E> {
 
 fn make_tally(alloc: Global) -> Option<Arc<Tally, Global>> {
     Arc::new(alloc, Tally::new(alloc).ok()?).ok()
-}
-
-fn put<O: Write>(out: &mut O, line: &str) -> io::Result<()>
-    ensures { OnOk result (Appends (O.contents out.old) (O.contents out.new) line.now) }
-{
-    out.write_all(line.as_bytes())?;
-    out.flush()
 }

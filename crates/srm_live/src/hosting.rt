@@ -1,6 +1,6 @@
 //! The node of a live member, its page workers, and the thread that draws what is typed.
 
-ghost use Rattle.std.specs.Prelude.{◌≡◌, List, Option, None, Some, true, map, vec_len, IfOk, IfSome, IsOkAnd};
+ghost use Rattle.std.specs.Prelude.{◌≡◌, List, Option, None, Some, true, false, map, vec_len, IfOk, IfSome, IsOkAnd};
 ghost use Rattle.std.specs.Bool.{OnTrue};
 ghost use Rattle.std.specs.List.{AllByRecursion, list_all, list_any};
 ghost use Rattle.srm_names.specs.declared.limits.TheConstants.{PAGES};
@@ -13,19 +13,20 @@ ghost use Rattle.srm_member.specs.Stations.{HasNewEnds};
 ghost use Rattle.srm_member.specs.Statuses.{fault_of, fault_of_lists, lacks_memory, IsRecordedEnd};
 ghost use Rattle.srm_member.specs.TakenText.{has_close, lists_of};
 ghost use Rattle.srm_record.specs.Begun.{IsRecorded};
-ghost use Rattle.srm_member.specs.WholeRuns.{TakePrefixes, IsReceivedOf, SawEach};
+ghost use Rattle.srm_member.specs.WholeRuns.{TakePrefixes, IsReceivedOf};
 ghost use Rattle.srm_live.specs.declared.typing_thread.TypedPens.{TypedPens as ThePens};
-ghost use Rattle.srm_live.specs.LiveRuns.{AreOnLines, AreFirstOf, IsWholeLiveRun};
+ghost use Rattle.srm_live.specs.LiveRuns as spec;
+ghost use Rattle.srm_live.specs.LiveRuns.{AreOnLines, AreFirstOf, IsWholeLiveRun, SawWhole};
 
 use crate::desk::Desk;
 use crate::lingering::Staying;
 use crate::shown_pages::ShownPages;
-use crate::typing_thread::{TypedPens, join_typing, start_typing};
+use crate::typing_thread::{TypedPens, drew_all, join_typing, start_typing};
 use srm_agent::Entry;
 use srm_control::{PageCommands, PageControl, settle_control};
 use srm_member::{MemberFault, Recorded, Station, end_record, host_if, join_pens, settle_lanes};
 use srm_names::PageMsg;
-use srm_node::{Hosted, NodeEnds, PageSink, Worked};
+use srm_node::{Hosted, NodeEnds, PageSink, WorkEnd, Worked};
 use srm_pages::ends::Well;
 use srm_pages::{Feed, Inked};
 use srm_record::Written;
@@ -39,13 +40,20 @@ use std::sync::{Arc, Wait};
 use std::thread::Threads;
 use std::time;
 
+/// How a live member's run ended.
+#[derive(Drop)]
+pub struct LiveEnd {
+    /// Why it wasn't whole, or [`MemberFault::Record`] if it was and the file hasn't its whole record; `None` if it was and there is no file or it has.
+    pub fault: Option<MemberFault>,
+    /// Whether all that was typed was drawn, and no sink stopped its worker.
+    pub is_complete: bool,
+}
+
 /// Runs the node in this thread, and its page workers and the producer that draws what is typed in one thread each, until all have ended.
 ///
-/// `turns` is how many turns the node has, `pages` has the node's control. Returns why the run wasn't whole, or [`MemberFault::Record`] if it was and the file hasn't
-/// its whole record; `None` if it was and there is no file or it has. Then each worker took all that the node's
-/// journal gave in its slot, and its sink saw each of these messages; and the journal's draws are all the strokes that the producer sent: those that are typed in the
-/// reader's bytes, in order, or a prefix of them, each on the page where who types stood by the node's answers to their commands. Where a whole run lacks one that was
-/// sent, the fault is [`ScriptFault::Memory`].
+/// `turns` is how many turns the node has, `pages` has the node's control. Returns how the run ended. Without a fault each worker took all that the node's journal gave in its slot, and its sink
+/// saw each of these messages. If the run is complete too, no sink stopped its worker, and the journal's draws are the strokes that are typed in the reader's bytes, up to its end or the first
+/// command to leave, in order, each on the page where who types stood by the node's answers to their commands. Where a whole run lacks a stroke that was sent, the fault is [`ScriptFault::Memory`].
 pub fn host_live<R, X, F, P, S, I, O, E>(
     rt: &R,
     alloc: Global,
@@ -56,7 +64,7 @@ pub fn host_live<R, X, F, P, S, I, O, E>(
     staying: Staying,
     turns: u64,
     desk: &Arc<Desk<O, E>, Global>,
-) -> Option<MemberFault>
+) -> LiveEnd
 where
     R: time::Clock + Threads + Wait + Copy + Send + Drop + 'static,
     X: Wire + Drop,
@@ -69,7 +77,7 @@ where
     requires new { HasNewEnds station.node.view station.taps.items station.pens.items }
     requires control { (pages ≡ new_control pages.out pages.back) × (station.node.view.control ≡ Some (new_commands pages.out pages.back)) }
     requires sinks { vec_len sinks ≡ PAGES }
-    ensures { result ≡ None → ((took : List (List AMessage)) × (whole : IsWholeLiveRun (calls_of NeverFalls X.receives X.sends X.pauses) turns (I.remaining reader) station.node.view took) × SawEach S.sees sinks.items took × (file : Option F) × IsRecorded F.contents station.node.begins whole.host.last.journal.entries took file) }
+    ensures { result.fault ≡ None → result.is_complete ≡ true → ((took : List (List AMessage)) × (whole : IsWholeLiveRun (calls_of NeverFalls X.receives X.sends X.pauses) turns (I.remaining reader) station.node.view took) × SawWhole S.sees sinks.items took × (file : Option F) × IsRecorded F.contents station.node.begins whole.host.last.journal.entries took file) }
 {
     let Station {
         node,
@@ -82,9 +90,39 @@ where
     desk.end();
     let typed = join_typing(rt, typing);
     match hosted {
-        Some((hosted, ends)) => settle(rt, alloc, hosted, ends, typed),
-        None => Some(MemberFault::Script(ScriptFault::Memory)),
+        Some((hosted, ends)) => {
+            let stopped = any_stopped(hosted.worked.as_slice());
+            let is_complete = drew_and_saw(drew_all(&typed), stopped);
+            LiveEnd {
+                fault: settle(rt, alloc, hosted, ends, typed),
+                is_complete,
+            }
+        }
+        None => LiveEnd {
+            fault: Some(MemberFault::Script(ScriptFault::Memory)),
+            is_complete: false,
+        },
     }
+}
+
+// Whether all that was typed was drawn, and no worker was stopped.
+fn drew_and_saw(drew_all: bool, stopped: bool) -> bool
+    ensures { result ≡ true → (drew_all ≡ true) × (stopped ≡ false) }
+{
+    drew_all && !stopped
+}
+
+// Whether a sink stopped one of these workers.
+fn any_stopped(worked: &[Worked]) -> bool
+    ensures { result ≡ list_any spec.was_stopped worked.now }
+{
+    worked.iter().any(was_stopped)
+}
+
+fn was_stopped(worked: &Worked) -> bool
+    ensures { result ≡ spec.was_stopped worked.now }
+{
+    matches!(worked.end, WorkEnd::Stopped)
 }
 
 // Why the run wasn't whole, or that its record isn't. If both are, both ends of each lane were put together, and the producers beside their stroke queue.
@@ -175,6 +213,7 @@ fn put_together<R: Wait>(
         first,
         others,
         control,
+        ..
     } = typed;
     let NodeEnds { well, commands } = ends;
     settle_lanes(feeds, worked);

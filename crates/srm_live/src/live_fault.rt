@@ -4,7 +4,8 @@ ghost use Rattle.std.specs.Prelude.{◌≡◌, ◌≤◌};
 ghost use Rattle.srm_live.specs.declared.live_fault.TheConstants.{WAS_BEFORE};
 ghost use Rattle.srm_live.specs.LiveStatuses.{fault_of_end, status_of_live};
 
-use srm_member::MemberFault;
+use srm_member::{Explained, MemberFault};
+use srm_script::{WIRE_FAILED, print_fault};
 use std::io::Write;
 use thiserror::Error;
 
@@ -15,7 +16,7 @@ pub const WAS_BEFORE: u8 = 5;
 #[derive(Debug, Drop, Error)]
 pub enum LiveFault {
     /// As of a member that isn't live, with the cause where its address can't be bound or its socket fails.
-    #[error("{0}")]
+    #[error("{}", Explained(.0))]
     Member(MemberFault),
     /// The run was whole, but the member was in the session before. That is told as it is heard.
     #[error("")]
@@ -40,6 +41,7 @@ impl LiveFault {
         ensures greatest { result ≤ WAS_BEFORE }
     {
         match self {
+            LiveFault::Member(MemberFault::Wire) => print_fault(self, err, WIRE_FAILED),
             LiveFault::Member(fault) => fault.print(err),
             LiveFault::WasBefore => WAS_BEFORE,
         }

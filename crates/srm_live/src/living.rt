@@ -1,6 +1,6 @@
 //! A live member: it draws what is typed, and prints what its page workers take as they do.
 
-ghost use Rattle.std.specs.Prelude.{◌≡◌, ◌≤◌, None, vec_len, IfOk};
+ghost use Rattle.std.specs.Prelude.{◌≡◌, ◌≤◌, true, None, vec_len, IfOk};
 ghost use Rattle.srm_names.specs.declared.limits.TheConstants.{PAGES};
 ghost use Rattle.srm_node.specs.Calls.{calls_of};
 ghost use Rattle.srm_udp.specs.Clocks.{NeverFalls};
@@ -12,10 +12,10 @@ ghost use Rattle.srm_member.specs.declared.fault.MemberFault.TheVariants.{Script
 ghost use Rattle.srm_live.specs.declared.live_fault.LiveFault.TheVariants.{Member};
 ghost use Rattle.srm_live.specs.declared.live_fault.TheConstants.{WAS_BEFORE};
 ghost use Rattle.srm_live.specs.LiveMembers.{LivesFrom, LivesWith, LivesWhole};
-ghost use Rattle.srm_live.specs.LiveStatuses.{IsLiveStatus, IsWholeEnd, IsWholeStatus, status_of_live};
+ghost use Rattle.srm_live.specs.LiveStatuses.{IsLiveStatus, IsWholeEnd, IsWholeStatus, fault_if_cut, status_of_live};
 
 use crate::desk::Desk;
-use crate::hosting::host_live;
+use crate::hosting::{LiveEnd, host_live};
 use crate::lingering::Staying;
 use crate::live_fault::LiveFault;
 use crate::live_sink::{Printing, printing_sinks};
@@ -56,11 +56,13 @@ use std::time;
 /// cause of a failed bind or a failed call is always told. An input may return `WouldBlock` where nothing is there yet, and is asked again: after a millisecond, or at once if its read took
 /// as long. While a read waits, the member can't end.
 ///
-/// `err` gets who of the others is here, falls silent for ten seconds or leaves; once that the member was in the session before; within a second why its record's file takes no more; why its address can't be bound or its socket failed; and at the end who wasn't heard
+/// `err` gets who of the others is here, falls silent for ten seconds or leaves; once each that the member was in the session before, that a datagram of another session came, that one came that
+/// is too long, and that nobody was heard for ten seconds from the start; within a second why its record's file takes no more; why its address can't be bound or its socket failed; and at the end who wasn't heard
 /// leaving, which streams miss drawops, what the network refused and what was dropped. If `err` is a terminal, the title of its window says each second what goes on.
 ///
 /// A failing output or input and running out of memory end the reading; the member stays and leaves all the same, since others may need what it holds. Then `err` gets one fault: out of memory, else
-/// what ended the node's run, else that the file hasn't the whole record, else the output, else the input.
+/// what ended the node's run, else that the file hasn't the whole record, else the output, else the input. If none of these befell it, and yet not all that was typed was drawn, up to the end of
+/// the input or `/leave`, or not all that the workers took was printed, the fault is out of memory.
 ///
 /// Returns the program's status: 0; 1 if the key file can't be used, a stream fails, or the record can't be made or written whole; 3 if the socket or the clock fails; 4 if memory ran out, a worker's too, or
 /// all turns were spent; [`WAS_BEFORE`](crate::WAS_BEFORE), 5, if all went well but the member was in the session before. Neither a line that is too long nor a long
@@ -263,21 +265,33 @@ where
     Station::bind(rt, alloc, options, seal, file, past)
 }
 
-// Prints the end of a whole run. Why it was none, by why the node's run wasn't and what befell the streams, and whether the member was in the session before. A wire that
+// Prints the end of a whole run. Why it was none, by why the node's run wasn't, what befell the streams and whether all was drawn and printed, and whether the member was in the session before. A wire that
 // failed is told with the call that failed, and a record that lacks something with its path and the cause.
 #[tactic(auto, using(crate::proofs::LiveMembers::whole_end))]
 fn end<R: Wait, O: Write, E: Write>(
     rt: &R,
-    run: Option<MemberFault>,
+    run: LiveEnd,
     notes: &Notes,
     was_before: bool,
     desk: &Desk<O, E>,
 ) -> Option<LiveFault>
-    ensures { IsWholeEnd result → run ≡ None }
+    ensures { IsWholeEnd result → (run.fault ≡ None) × (run.is_complete ≡ true) }
 {
-    if run.is_none() {
+    let LiveEnd { fault, is_complete } = run;
+    if fault.is_none() {
         desk.print_gone(rt);
     }
-    let run = told_with(run, desk.alloc(), notes);
-    LiveFault::of_end(MemberFault::of_live(run, desk.noted()), was_before)
+    let told = told_with(fault, desk.alloc(), notes);
+    let fault = MemberFault::of_live(told, desk.noted());
+    LiveFault::of_end(or_cut(fault, is_complete), was_before)
+}
+
+// This fault, or if there is none and not all was drawn and printed, that memory ran out.
+fn or_cut(fault: Option<MemberFault>, is_complete: bool) -> Option<MemberFault>
+    ensures { result ≡ fault_if_cut is_complete fault }
+{
+    match fault {
+        None if !is_complete => Some(MemberFault::Script(ScriptFault::Memory)),
+        fault => fault,
+    }
 }

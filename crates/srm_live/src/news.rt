@@ -4,6 +4,7 @@ ghost use Rattle.std.specs.Prelude.{◌≡◌, option_map};
 ghost use Rattle.srm_live.specs.News as spec;
 
 use crate::presence::{Presence, Standing};
+use crate::signs::Signs;
 use crate::tally::Tally;
 use crate::teller::Teller;
 use srm_names::{MEMBERS, Member};
@@ -15,6 +16,7 @@ use std::sync::Wait;
 pub struct Told {
     presence: Presence,
     was_before: bool,
+    signs: Signs,
     dropped: Dropped,
 }
 
@@ -24,17 +26,19 @@ impl Told {
         Told {
             presence: Presence::none(),
             was_before: false,
+            signs: Signs::none(),
             dropped: Dropped::none(),
         }
     }
 }
 
-/// Tells what changed since: who of the others is here, fell silent or left, that the member with this number was in the session before, and why the first datagram was dropped. If out
-/// of memory, a line is left out.
+/// Tells what changed since: who of the others is here, fell silent or left, that the member with this number was in the session before, what tells that members are set differently or that
+/// nobody reaches this one, and why the first datagram was dropped. If out of memory, a line is left out.
 pub fn tell_news<R: Wait, T: Teller>(rt: &R, tally: &Tally, told: Told, teller: &T) -> Told {
     let now = Told {
         presence: tally.presence(),
         was_before: tally.was_before(),
+        signs: tally.signs(),
         dropped: tally.dropped(),
     };
     if now == told {
@@ -52,8 +56,34 @@ pub fn tell_news<R: Wait, T: Teller>(rt: &R, tally: &Tally, told: Told, teller: 
         let has_names = !teller.names().is_empty();
         tell(rt, teller, teller.me(), was_before(has_names));
     }
+    tell_signs(rt, teller, told.signs, now.signs);
     tell_first_dropped(rt, teller, told.dropped, now.dropped);
     now
+}
+
+// Tells what was seen first of members that are set differently, and that nobody was heard.
+fn tell_signs<R: Wait, T: Teller>(rt: &R, teller: &T, told: Signs, now: Signs) {
+    for (before, now, line) in [
+        (
+            told.other_session,
+            now.other_session,
+            "srm: ignored a datagram of another session: give all members the same --session or room\n",
+        ),
+        (
+            told.too_long,
+            now.too_long,
+            "srm: ignored a datagram that is too long, as one with a key's tag is: give all members the same --key or room\n",
+        ),
+        (
+            told.unheard,
+            now.unheard,
+            "srm: nobody was heard for 10 s: are the others running, with the same list, and do firewalls let UDP through?\n",
+        ),
+    ] {
+        if now && !before {
+            teller.tell(rt, line);
+        }
+    }
 }
 
 // Tells why datagrams are dropped as the first is, where the member's options may be wrong.

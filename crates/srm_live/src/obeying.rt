@@ -1,7 +1,7 @@
 //! Doing what who types tells a live member.
 
 ghost use Rattle.std.specs.Prelude.{IfOk, OnErr};
-ghost use Rattle.srm_live.specs.Typing.{Turns, Does, Ends};
+ghost use Rattle.srm_live.specs.Typing.{Turns, DoesOrLeaves, Ends};
 ghost use Rattle.srm_live.specs.declared.typed.Typed.TheVariants.{Order};
 
 use crate::command::Command;
@@ -18,7 +18,7 @@ use std::io::Write;
 use std::sync::Wait;
 use std::time::Clock;
 
-/// What is told of commands.
+/// The lines that `/help` prints.
 const HELP: &str = "\
 srm: each line is a stroke; a line that begins with // is one with one / less
 srm: /page C.P  shows page P of member C, and draws there
@@ -29,12 +29,13 @@ srm: /leave     leaves, as the end of input does
 srm: /help      these lines
 ";
 
-/// What is told of a command that there isn't.
-const UNKNOWN: &str = "srm: no such command: /help names them, and //x draws /x\n";
+/// The line for a command that there isn't, and for a page that there can't be.
+const UNKNOWN: &str =
+    "srm: no such command or page: /help names them, /page 0.1 names a page, and //x draws /x\n";
 
-/// Does what a command says, typed by one who draws on this page, or tells that there is no such command. Returns the page where they draw from now on, `Left` if the
+/// Does what a command says, typed by one who draws on this page, or tells that there is no such command or page. Returns the page where they draw from now on, `None` if the
 /// member is to leave, and `Closed` if the node has ended and didn't answer.
-#[tactic(auto, using(crate::proofs::TypedLines::does_show, crate::proofs::TypedLines::does_begin, crate::proofs::TypedLines::does_no_command, crate::proofs::TypedLines::does_pages, crate::proofs::TypedLines::does_who, crate::proofs::TypedLines::does_help, crate::proofs::TypedLines::ends_none))]
+#[tactic(auto, using(crate::proofs::TypedLines::does_show, crate::proofs::TypedLines::does_begin, crate::proofs::TypedLines::does_no_command, crate::proofs::TypedLines::does_pages, crate::proofs::TypedLines::does_who, crate::proofs::TypedLines::does_help, crate::proofs::TypedLines::leaves, crate::proofs::TypedLines::ends_none))]
 pub fn obey<R: Clock + Wait, O: Write, E: Write>(
     rt: &R,
     typist: &mut Typist,
@@ -42,36 +43,35 @@ pub fn obey<R: Clock + Wait, O: Write, E: Write>(
     page: &Page,
     desk: &Desk<O, E>,
     waker: &Waking,
-) -> Result<Page, ReadingEnd>
-    ensures does { IfOk result (λ turned. Does (Order command) page.now typist.old turned typist.new) }
+) -> Result<Option<Page>, ReadingEnd>
+    ensures does { IfOk result (λ turned. DoesOrLeaves (Order command) page.now typist.old turned typist.new) }
     ensures ends { OnErr result (Ends typist.old typist.new) }
 {
     match command {
-        Some(Command::Show(named)) => turn_by(
-            rt,
-            typist,
-            &PageCommand::Show(named),
-            page,
-            desk,
-            waker,
-        ),
-        Some(Command::Begin) => turn_by(rt, typist, &PageCommand::Begin, page, desk, waker),
-        Some(Command::Leave) => Err(ReadingEnd::Left),
+        Some(Command::Show(named)) => {
+            let shown = PageCommand::Show(named);
+            Ok(Some(turn_by(rt, typist, &shown, page, desk, waker)?))
+        }
+        Some(Command::Begin) => {
+            let begun = PageCommand::Begin;
+            Ok(Some(turn_by(rt, typist, &begun, page, desk, waker)?))
+        }
+        Some(Command::Leave) => Ok(None),
         Some(Command::Pages) => {
             tell_pages(rt, page, desk);
-            Ok(*page)
+            Ok(Some(*page))
         }
         Some(Command::Who) => {
             tell_who(rt, desk);
-            Ok(*page)
+            Ok(Some(*page))
         }
         Some(Command::Help) => {
             desk.tell(rt, HELP);
-            Ok(*page)
+            Ok(Some(*page))
         }
         None => {
             desk.tell(rt, UNKNOWN);
-            Ok(*page)
+            Ok(Some(*page))
         }
     }
 }

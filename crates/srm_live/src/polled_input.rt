@@ -49,8 +49,15 @@ impl<I: Read> Read for PolledInput<I> {
 
     fn read(&mut self, buffer: &mut [u8]) -> io::Result<usize> {
         let descriptor = self.descriptor;
-        if finds_nothing(&mut self.poll, descriptor) {
-            return Err(io::Error::from(ErrorKind::WouldBlock));
+        if let Some((poll, events)) = &mut self.poll {
+            // The poll reports once what comes: asked anew, it reports what is there too. Where the system refuses to wait, the read does.
+            let asked = poll
+                .registry()
+                .reregister(&mut SourceFd(&descriptor), Token(0), Interest::READABLE);
+            let waited = poll.poll(events, Some(Duration::from_micros(WAIT)));
+            if asked.is_ok() && waited.is_ok() && events.is_empty() {
+                return Err(io::Error::from(ErrorKind::WouldBlock));
+            }
         }
         self.reader.read(buffer)
     }
@@ -62,17 +69,4 @@ fn poll_of(net: &impl Net, alloc: Global, descriptor: RawFd) -> io::Result<(Poll
     poll.registry()
         .register(&mut SourceFd(&descriptor), Token(0), Interest::READABLE)?;
     Ok((poll, events))
-}
-
-// Waits until something is there, or the time is up. Whether nothing is. Where the system refuses to wait, the next read does.
-fn finds_nothing(poll: &mut Option<(Poll, Events<Global>)>, descriptor: RawFd) -> bool {
-    let Some((poll, events)) = poll else {
-        return false;
-    };
-    // The poll reports once what comes: asked anew, it reports what is there too.
-    let asked = poll
-        .registry()
-        .reregister(&mut SourceFd(&descriptor), Token(0), Interest::READABLE);
-    let waited = poll.poll(events, Some(Duration::from_micros(WAIT)));
-    asked.is_ok() && waited.is_ok() && events.is_empty()
 }

@@ -2,7 +2,6 @@
 
 ghost use Rattle.std.specs.Prelude.{◌≡◌};
 ghost use Rattle.srm_live.specs.MemberSets.{Gains, Loses};
-ghost use Rattle.srm_live.specs.MemberSets as sets;
 ghost use Rattle.srm_live.specs.Standings.{nobody, standing_of};
 
 use crate::member_set::{has, with, without};
@@ -57,13 +56,6 @@ impl Presence {
         } else {
             Standing::Unheard
         }
-    }
-
-    /// Returns whether a datagram of a member came.
-    pub fn is_heard(&self, member: Member) -> bool
-        ensures { result ≡ sets.has self.now.heard member }
-    {
-        has(self.heard, member)
     }
 
     /// Notes that a datagram of a member came.

@@ -5,7 +5,8 @@ use crate::holes::Holes;
 use crate::lost::{Lost, LostCounts};
 use crate::page_code::{code_of, page_of};
 use crate::presence::Presence;
-use srm_codec::Datagram;
+use crate::signs::{SignFlags, Signs, is_unheard, sign_of};
+use srm_agent::Verdict;
 use srm_names::Page;
 use srm_wire::{Dropped, Losses, WireCounts};
 use std::alloc::{AllocError, Global};
@@ -30,11 +31,43 @@ pub struct Tally {
     noise: AtomicU64,
     lost: LostCounts,
     dropped: DroppedCounts,
+    signs: SignFlags,
     // How many session messages were sent, and the page of the last one, as a number.
     sessions: AtomicU64,
     told_page: AtomicU64,
     // The page of the member's last stroke, as a number.
     drawn_page: AtomicU64,
+}
+
+/// What passed a member's wire in a turn.
+#[derive(Clone, Copy, Debug, PartialEq, Eq)]
+pub struct Passed {
+    /// The datagrams that were sent.
+    pub sent: u64,
+    /// The datagrams that came from others.
+    pub came: u64,
+    /// The requests among those that were sent.
+    pub requests: u64,
+    /// The repairs among those that were sent.
+    pub repairs: u64,
+    /// The session messages among those that were sent.
+    pub sessions: u64,
+    /// The page of the last of these.
+    pub told_page: Option<Page>,
+}
+
+impl Passed {
+    /// Returns that nothing passed.
+    pub fn nothing() -> Passed {
+        Passed {
+            sent: 0,
+            came: 0,
+            requests: 0,
+            repairs: 0,
+            sessions: 0,
+            told_page: None,
+        }
+    }
 }
 
 /// The session messages that a member sent.
@@ -64,25 +97,29 @@ impl Tally {
             noise: AtomicU64::new(0),
             lost: LostCounts::new(),
             dropped: DroppedCounts::new(),
+            signs: SignFlags::new(),
             sessions: AtomicU64::new(0),
             told_page: AtomicU64::new(0),
             drawn_page: AtomicU64::new(0),
         })
     }
 
-    /// Counts a datagram that was sent.
-    pub fn count_sent(&self, datagram: &Datagram) {
-        add_one(&self.sent);
-        match datagram {
-            Datagram::Request { .. } => add_one(&self.requests),
-            Datagram::Repair { .. } => add_one(&self.repairs),
-            Datagram::Data(_) | Datagram::Session { .. } => {}
+    /// Adds what passed the wire in a turn.
+    pub fn count(&self, passed: &Passed) {
+        self.sent.fetch_add(passed.sent, Ordering::SeqCst);
+        self.came.fetch_add(passed.came, Ordering::SeqCst);
+        self.requests.fetch_add(passed.requests, Ordering::SeqCst);
+        self.repairs.fetch_add(passed.repairs, Ordering::SeqCst);
+        if let Some(page) = passed.told_page {
+            // The page is there before its message counts.
+            self.told_page.store(code_of(page), Ordering::SeqCst);
+            self.sessions.fetch_add(passed.sessions, Ordering::SeqCst);
         }
     }
 
     /// Counts a datagram that came from another member.
     pub fn count_came(&self) {
-        add_one(&self.came);
+        self.came.fetch_add(1, Ordering::SeqCst);
     }
 
     /// Stores what is known of the others now.
@@ -116,12 +153,6 @@ impl Tally {
         self.missing.store(count, Ordering::SeqCst);
     }
 
-    /// Notes that a session message of this page was sent.
-    pub fn note_session(&self, page: Page) {
-        self.told_page.store(code_of(page), Ordering::SeqCst);
-        add_one(&self.sessions);
-    }
-
     /// Returns the session messages that were sent by now.
     pub fn sessions(&self) -> Sessions {
         Sessions {
@@ -147,12 +178,27 @@ impl Tally {
 
     /// Counts a datagram that the agent ignored.
     pub fn count_ignored(&self) {
-        add_one(&self.ignored);
+        self.ignored.fetch_add(1, Ordering::SeqCst);
     }
 
-    /// Counts what came and is noise to the agent.
-    pub fn count_noise(&self) {
-        add_one(&self.noise);
+    /// Counts what came and is noise to the agent, and notes what the verdict tells of its sender's settings.
+    pub fn count_noise(&self, verdict: Verdict) {
+        self.noise.fetch_add(1, Ordering::SeqCst);
+        if let Some(sign) = sign_of(verdict) {
+            self.signs.note(sign);
+        }
+    }
+
+    /// Notes it if nobody reached the member, one of so many, by this moment, in microseconds since its start, though ten seconds passed.
+    pub fn look_for_anybody(&self, members: u8, moment: u64) {
+        if is_unheard(members, self.came.load(Ordering::SeqCst), moment) {
+            self.signs.note_unheard();
+        }
+    }
+
+    /// Returns what tells by now that members are set differently, or that nobody reaches this one.
+    pub fn signs(&self) -> Signs {
+        self.signs.signs()
     }
 
     /// Stores what the wire has counted by now.
@@ -181,13 +227,14 @@ impl Tally {
         self.dropped.dropped()
     }
 
-    /// Returns what goes on by now, in a session of so many others.
+    /// Returns what goes on by now, in a session of so many others. Who is alone sends to nobody.
     pub fn activity(&self, others: u8) -> Activity {
+        let sent = self.sent.load(Ordering::SeqCst);
         Activity {
             others,
             heard: self.heard.load(Ordering::SeqCst).count_ones(),
             missing: self.missing.load(Ordering::SeqCst),
-            sent: self.sent.load(Ordering::SeqCst),
+            sent: if others == 0 { 0 } else { sent },
             came: self.came.load(Ordering::SeqCst),
             requests: self.requests.load(Ordering::SeqCst),
             repairs: self.repairs.load(Ordering::SeqCst),
@@ -197,10 +244,6 @@ impl Tally {
             dropped: self.dropped(),
         }
     }
-}
-
-fn add_one(count: &AtomicU64) {
-    count.fetch_add(1, Ordering::SeqCst);
 }
 
 /// What passed a member's wire, and what its agent made of it. Its text is the line for what goes on.

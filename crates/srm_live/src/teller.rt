@@ -1,7 +1,7 @@
 //! Who tells what befalls a member while it runs.
 
 use crate::tally::Tally;
-use srm_member::{Keeping, noted_cause};
+use srm_member::{Keeping, RecordLine, noted_cause};
 use srm_names::Member;
 use srm_options::Names;
 use std::alloc::Global;
@@ -46,7 +46,7 @@ pub fn tell_unwritten<R: Wait, T: Teller>(
     let Some(cause) = noted_cause(teller.alloc(), keeping) else {
         return false;
     };
-    match format!(in teller.alloc(); "srm: record {cause}\n") {
+    match format!(in teller.alloc(); "{}\n", RecordLine(&cause)) {
         Ok(line) => {
             teller.tell(rt, line.as_str());
             true

@@ -1,10 +1,11 @@
 //! Strokes that are drawn as they are typed.
 
 ghost use Rattle.std.specs.Prelude.{◌≡◌, ◌<◌, ◌≤◌, ◌∷◌, [], length, take, IfOk, IfSome, OnOk, OnErr, MatchResult, MatchOption};
+ghost use Rattle.std.specs.Bool.{OnTrue};
 ghost use Rattle.std.specs.Io.KnownBytes.{Consumes, Keeps, IsAtEnd};
 ghost use Rattle.srm_names.specs.Names.{first_page};
 ghost use Rattle.srm_live.specs.LiveRuns.{typist as typist_of};
-ghost use Rattle.srm_live.specs.Typing.{SameTypist, Stays, Ends, Does, DrawsTyped, DrawsSome, DrawsLast, SentAllOf, SentPrefixOf};
+ghost use Rattle.srm_live.specs.Typing.{SameTypist, Stays, Ends, DoesOrLeaves, DrawsOrLeaves, DrawsSome, DrawsLast, SentAllOf, SentPrefixOf};
 
 use crate::cut::ReadingEnd;
 use crate::desk::Desk;
@@ -28,10 +29,10 @@ const READ: usize = 1_024;
 /// How long to wait before a reader that has nothing yet is asked again, in microseconds. It is asked at once if its read took as long, as that of a polled input does.
 const WAIT: u64 = 1_000;
 
-/// Draws each line of a reader, or does what its command says, stays once the reader ended, and returns the typist, who is done. Meanwhile the pages with strokes are
-/// shown in turn.
+/// Draws each line of a reader, or does what its command says, up to the reader's end or a command to leave. Then it stays, and returns the typist, who is done, with whether all was drawn.
+/// Meanwhile the pages with strokes are shown in turn.
 ///
-/// It stops drawing as soon as the member is to leave, the output is closed, the input fails, memory runs out or the node has ended, and stays as long, but not past the node's end.
+/// It stops drawing earlier if the output is closed, the input fails, memory runs out or the node has ended, and stays as long, but not past the node's end.
 pub fn draw_typed<R: Clock + Wait, I: Read + Drop, O: Write, E: Write>(
     rt: &R,
     alloc: Global,
@@ -41,19 +42,20 @@ pub fn draw_typed<R: Clock + Wait, I: Read + Drop, O: Write, E: Write>(
     desk: &Desk<O, E>,
     waker: &Waking,
 ) -> Finished
+    ensures all { OnTrue result.all (SentAllOf (I.remaining reader) typist (typist_of result.inked result.control)) }
     ensures prefix { SentPrefixOf (I.remaining reader) typist (typist_of result.inked result.control) }
     ensures same { SameTypist typist (typist_of result.inked result.control) }
 {
     let mut reader = reader;
     let mut typist = typist;
-    draw_and_stay(rt, alloc, &mut reader, &mut typist, staying, desk, waker);
-    let finished = typist.done();
+    let all = draw_and_stay(rt, alloc, &mut reader, &mut typist, staying, desk, waker);
+    let finished = typist.done(all);
     wake(waker);
     finished
 }
 
-// Draws each line of a reader, and stays once it ended.
-#[tactic(auto, using(crate::proofs::TypedLines::prefix_stays, crate::proofs::TypedLines::same_stays))]
+// Draws each line of a reader, and then stays. Whether all was drawn.
+#[tactic(auto, using(crate::proofs::TypedLines::all_stays, crate::proofs::TypedLines::prefix_stays, crate::proofs::TypedLines::same_stays))]
 fn draw_and_stay<R: Clock + Wait, I: Read, O: Write, E: Write>(
     rt: &R,
     alloc: Global,
@@ -62,14 +64,37 @@ fn draw_and_stay<R: Clock + Wait, I: Read, O: Write, E: Write>(
     staying: &Staying,
     desk: &Desk<O, E>,
     waker: &Waking,
-)
+) -> bool
+    ensures all { OnTrue result (SentAllOf (I.remaining reader.old) typist.old typist.new) }
     ensures prefix { SentPrefixOf (I.remaining reader.old) typist.old typist.new }
     ensures same { SameTypist typist.old typist.new }
 {
-    if let Err(ReadingEnd::Fault(fault)) = draw_lines(rt, alloc, reader, typist, desk, waker) {
-        desk.note(&fault);
-    }
+    let all = draw_all(rt, alloc, reader, typist, desk, waker);
     stay(rt, typist, staying, desk, waker);
+    all
+}
+
+// Draws each line of a reader, and notes the fault that ended it before. Whether all was drawn.
+fn draw_all<R: Clock + Wait, I: Read, O: Write, E: Write>(
+    rt: &R,
+    alloc: Global,
+    reader: &mut I,
+    typist: &mut Typist,
+    desk: &Desk<O, E>,
+    waker: &Waking,
+) -> bool
+    ensures all { OnTrue result (SentAllOf (I.remaining reader.old) typist.old typist.new) }
+    ensures prefix { SentPrefixOf (I.remaining reader.old) typist.old typist.new }
+    ensures same { SameTypist typist.old typist.new }
+{
+    match draw_lines(rt, alloc, reader, typist, desk, waker) {
+        Ok(()) => true,
+        Err(ReadingEnd::Closed) => false,
+        Err(ReadingEnd::Fault(fault)) => {
+            desk.note(&fault);
+            false
+        }
+    }
 }
 
 // Stays, and shows pages in turn meanwhile.
@@ -93,7 +118,7 @@ fn stay<R: Clock + Wait, O: Write, E: Write>(
     unreachable!()
 }
 
-// Draws each line of a reader, until it ends.
+// Draws each line of a reader, until it ends or one tells the member to leave.
 #[tactic(auto, using(crate::proofs::TypedLines::prefix_none, crate::proofs::TypedLines::same_none))]
 fn draw_lines<R: Clock + Wait, I: Read, O: Write, E: Write>(
     rt: &R,
@@ -145,7 +170,11 @@ fn draw_read<R: Clock + Wait, I: Read, O: Write, E: Write>(
         match read_next(rt, reader, buffer)? {
             None => typist.turn_page(rt, desk.tally(), waker),
             Some(0) => return draw_last(rt, typist, line, desk, waker),
-            Some(count) => draw_bytes(rt, typist, line, &buffer[..count], desk, waker)?,
+            Some(count) => {
+                if !draw_bytes(rt, typist, line, &buffer[..count], desk, waker)? {
+                    return Ok(());
+                }
+            }
         }
     }
     unreachable!()
@@ -196,7 +225,7 @@ fn has_waited<R: Clock>(rt: &R, asked: Option<Instant>) -> bool {
     passed >= Duration::from_micros(WAIT)
 }
 
-// Draws these bytes, line by line.
+// Draws these bytes, line by line. False if a line tells the member to leave, and then nothing behind it is drawn.
 #[tactic(auto, using(crate::proofs::TypedLines::draws_none, crate::proofs::TypedLines::draws_more, crate::proofs::TypedLines::draws_some, crate::proofs::TypedLines::draws_all))]
 fn draw_bytes<R: Clock + Wait, O: Write, E: Write>(
     rt: &R,
@@ -205,18 +234,20 @@ fn draw_bytes<R: Clock + Wait, O: Write, E: Write>(
     bytes: &[u8],
     desk: &Desk<O, E>,
     waker: &Waking,
-) -> Result<(), ReadingEnd>
-    ensures all { OnOk result (DrawsTyped bytes.now line.old.page line.old.kept typist.old line.new.page line.new.kept typist.new) }
-    ensures some { DrawsSome bytes.now line.old.page line.old.kept typist.old typist.new }
+) -> Result<bool, ReadingEnd>
+    ensures all { IfOk result (λ goes_on. DrawsOrLeaves goes_on bytes.now line.old.page line.old.kept typist.old line.new.page line.new.kept typist.new) }
+    ensures some { OnErr result (DrawsSome bytes.now line.old.page line.old.kept typist.old typist.new) }
 {
     for byte in bytes {
-        draw_byte(rt, typist, line, *byte, desk, waker)?;
+        if !draw_byte(rt, typist, line, *byte, desk, waker)? {
+            return Ok(false);
+        }
     }
-    Ok(())
+    Ok(true)
 }
 
-// Takes the next byte of a line, which is drawn where it ends.
-#[tactic(auto, using(crate::proofs::TypedLines::draws_byte, crate::proofs::TypedLines::draws_line_end, crate::proofs::TypedLines::ends_none))]
+// Takes the next byte of a line, which is drawn where it ends. False if that line tells the member to leave.
+#[tactic(auto, using(crate::proofs::TypedLines::draws_byte, crate::proofs::TypedLines::draws_line_end, crate::proofs::TypedLines::draws_leave, crate::proofs::TypedLines::ends_none))]
 fn draw_byte<R: Clock + Wait, O: Write, E: Write>(
     rt: &R,
     typist: &mut Typist,
@@ -224,19 +255,21 @@ fn draw_byte<R: Clock + Wait, O: Write, E: Write>(
     byte: u8,
     desk: &Desk<O, E>,
     waker: &Waking,
-) -> Result<(), ReadingEnd>
-    ensures drawn { OnOk result (DrawsTyped (byte ∷ []) line.old.page line.old.kept typist.old line.new.page line.new.kept typist.new) }
+) -> Result<bool, ReadingEnd>
+    ensures drawn { IfOk result (λ goes_on. DrawsOrLeaves goes_on (byte ∷ []) line.old.page line.old.kept typist.old line.new.page line.new.kept typist.new) }
     ensures ends { OnErr result (Ends typist.old typist.new) }
 {
     if byte != b'\n' {
         line.push(byte)?;
-        return Ok(());
+        return Ok(true);
     }
     let typed = line.end()?;
     let page = line.page();
-    let turned = draw_line(rt, typist, &page, typed, desk, waker)?;
+    let Some(turned) = draw_line(rt, typist, &page, typed, desk, waker)? else {
+        return Ok(false);
+    };
     line.turn_to(turned);
-    Ok(())
+    Ok(true)
 }
 
 // Draws the last line, which lacks its end, unless it is empty.
@@ -260,7 +293,7 @@ fn draw_last<R: Clock + Wait, O: Write, E: Write>(
     Ok(())
 }
 
-// Draws a line that ended on this page, does what it says, or tells that it is too long. The page where who types stands then.
+// Draws a line that ended on this page, does what it says, or tells that it is too long. The page where who types stands then, or None if it tells the member to leave.
 #[tactic(auto, using(crate::proofs::TypedLines::ends_none, crate::proofs::TypedLines::ends_behind))]
 fn draw_line<R: Clock + Wait, O: Write, E: Write>(
     rt: &R,
@@ -269,8 +302,8 @@ fn draw_line<R: Clock + Wait, O: Write, E: Write>(
     typed: Typed,
     desk: &Desk<O, E>,
     waker: &Waking,
-) -> Result<Page, ReadingEnd>
-    ensures does { IfOk result (λ turned. Does typed page.now typist.old turned typist.new) }
+) -> Result<Option<Page>, ReadingEnd>
+    ensures does { IfOk result (λ turned. DoesOrLeaves typed page.now typist.old turned typist.new) }
     ensures ends { OnErr result (Ends typist.old typist.new) }
 {
     if desk.is_over() {
@@ -290,8 +323,8 @@ fn do_line<R: Clock + Wait, O: Write, E: Write>(
     typed: Typed,
     desk: &Desk<O, E>,
     waker: &Waking,
-) -> Result<Page, ReadingEnd>
-    ensures does { IfOk result (λ turned. Does typed page.now typist.old turned typist.new) }
+) -> Result<Option<Page>, ReadingEnd>
+    ensures does { IfOk result (λ turned. DoesOrLeaves typed page.now typist.old turned typist.new) }
     ensures ends { OnErr result (Ends typist.old typist.new) }
 {
     match typed {
@@ -299,11 +332,11 @@ fn do_line<R: Clock + Wait, O: Write, E: Write>(
             if !typist.draw(rt, page, body, desk.ended(), waker) {
                 return Err(ReadingEnd::Closed);
             }
-            Ok(*page)
+            Ok(Some(*page))
         }
         Typed::TooLong(number) => {
             desk.refuse(rt, number);
-            Ok(*page)
+            Ok(Some(*page))
         }
         Typed::Order(command) => obey(rt, typist, command, page, desk, waker),
     }

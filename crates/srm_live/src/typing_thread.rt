@@ -1,6 +1,7 @@
 //! The thread that draws what is typed, and the producers that nobody uses.
 
-ghost use Rattle.std.specs.Prelude.{◌≡◌, ◌∷◌, None, IfSome, IsSome};
+ghost use Rattle.std.specs.Prelude.{◌≡◌, ◌∷◌, true, None, IfSome, IsSome};
+ghost use Rattle.std.specs.Bool.{OnTrue};
 ghost use Rattle.srm_live.specs.LiveRuns.{HaveTyped};
 
 use crate::desk::Desk;
@@ -19,15 +20,16 @@ use std::sync::{Arc, Wait};
 use std::thread::{Promise, PromisedHandle, Threads};
 use std::{thread, time};
 
-/// A promise: this typist sends a prefix of the strokes that are typed in what this reader has, by answers that come to the control.
+/// A promise: this typist sends a prefix of the strokes that are typed in what this reader has, by answers that come to the control, and says whether it is all of them.
 #[derive(Drop)]
 pub struct DrawsLines<I: Read>(Snapshot<Typist>, Snapshot<I>);
 
 impl<I: Read> Promise<Finished> for DrawsLines<I> {
-    ghost use Rattle.srm_live.specs.Typing.{SameTypist, SentPrefixOf};
+    ghost use Rattle.std.specs.Bool.{OnTrue};
+    ghost use Rattle.srm_live.specs.Typing.{SameTypist, SentAllOf, SentPrefixOf};
     ghost use Rattle.srm_live.specs.LiveRuns.{typist};
 
-    ghost kept_by = { λ p f. SameTypist p.0.value (typist f.inked f.control) × SentPrefixOf (I.remaining p.1.value) p.0.value (typist f.inked f.control) };
+    ghost kept_by = { λ p f. SameTypist p.0.value (typist f.inked f.control) × SentPrefixOf (I.remaining p.1.value) p.0.value (typist f.inked f.control) × OnTrue f.all (SentAllOf (I.remaining p.1.value) p.0.value (typist f.inked f.control)) };
 }
 
 /// The thread of the first producer, which draws what is typed, and the others, which are done.
@@ -40,6 +42,8 @@ pub struct Typing<I: Read> {
 /// All producers, which are done, and the control: the one that drew what was typed, and the others.
 #[derive(Drop)]
 pub struct TypedPens {
+    /// Whether all that was typed was drawn.
+    pub all: bool,
     /// The one that drew what was typed.
     pub first: Inked,
     /// The others, which drew nothing.
@@ -126,9 +130,19 @@ fn all_done(alloc: Global, pens: VecDeque<Pen>) -> Option<Vec<Inked>>
     Some(inked)
 }
 
+/// Returns whether all that was typed was drawn. It wasn't if the thread wasn't started.
+pub fn drew_all(typed: &Option<TypedPens>) -> bool
+    ensures { OnTrue result (IfSome typed.now (λ t. t.all ≡ true)) }
+{
+    match typed {
+        Some(typed) => typed.all,
+        None => false,
+    }
+}
+
 /// Waits for the thread, if there is one, and returns all producers and the control.
 pub fn join_typing<R: Threads, I: Read>(rt: &R, typing: Option<Typing<I>>) -> Option<TypedPens>
-    ensures typed { IfSome result (λ p. IfSome typing (λ t. HaveTyped (I.remaining t.first.promise.1.value) (t.first.promise.0.value.pen ∷ t.others.items) t.first.promise.0.value.control p.first p.others.items p.control)) }
+    ensures typed { IfSome result (λ p. IfSome typing (λ t. HaveTyped p.all (I.remaining t.first.promise.1.value) (t.first.promise.0.value.pen ∷ t.others.items) t.first.promise.0.value.control p.first p.others.items p.control)) }
     ensures none { typing ≡ None → result ≡ None }
     ensures some { IsSome typing → IsSome result }
 {
@@ -139,11 +153,16 @@ pub fn join_typing<R: Threads, I: Read>(rt: &R, typing: Option<Typing<I>>) -> Op
 }
 
 fn join_pens_of<R: Threads, I: Read>(rt: &R, typing: Typing<I>) -> TypedPens
-    ensures { HaveTyped (I.remaining typing.first.promise.1.value) (typing.first.promise.0.value.pen ∷ typing.others.items) typing.first.promise.0.value.control result.first result.others.items result.control }
+    ensures { HaveTyped result.all (I.remaining typing.first.promise.1.value) (typing.first.promise.0.value.pen ∷ typing.others.items) typing.first.promise.0.value.control result.first result.others.items result.control }
 {
     let Typing { first, others } = typing;
-    let Finished { inked, control } = first.join(rt);
+    let Finished {
+        all,
+        inked,
+        control,
+    } = first.join(rt);
     TypedPens {
+        all,
         first: inked,
         others,
         control,

@@ -28,6 +28,8 @@ pub struct Typist {
 /// A producer that is done, and the control that asked for its pages.
 #[derive(Drop)]
 pub struct Finished {
+    /// Whether all that was typed was drawn.
+    pub all: bool,
     /// The producer.
     pub inked: Inked,
     /// The control.
@@ -88,12 +90,14 @@ impl Typist {
         }
     }
 
-    /// Says that nothing more is drawn.
-    pub fn done(self) -> Finished
+    /// Says that nothing more is drawn, and whether that is all that was typed.
+    pub fn done(self, all: bool) -> Finished
+        ensures all { result.all ≡ all }
         ensures inked { result.inked ≡ self.pen }
         ensures control { result.control ≡ self.control }
     {
         Finished {
+            all,
             inked: self.pen.done(),
             control: self.pages.into_control(),
         }

@@ -5,7 +5,8 @@ ghost use Rattle.std.specs.Prelude.{◌≡◌, []};
 use crate::claims::Claims;
 use crate::need::Need;
 use crate::presence::Presence;
-use crate::tally::Tally;
+use crate::signs::SILENCE;
+use crate::tally::{Passed, Tally};
 use srm_agent::{Agent, Config, Entry, Input, Verdict};
 use srm_codec::Datagram;
 use srm_names::{MEMBERS, Member};
@@ -14,9 +15,6 @@ use srm_wire::WireCounts;
 use srm_world::{Forgotten, Past};
 use std::alloc::{AllocError, Global};
 use std::sync::Arc;
-
-/// After so many microseconds without a datagram a member counts as silent.
-const SILENCE: u64 = 10_000_000;
 
 /// The entries of a node that keeps none of them. What each says happened is told first to what others need, and to a tally if one is kept; and to both at the end of a turn what
 /// the member answers.
@@ -96,9 +94,14 @@ impl Past<Entry> for Watched {
 #[derive(Drop)]
 struct Watch {
     config: Config,
+    // Who was heard and who left, as the last turn ended.
     presence: Presence,
     // When each member was heard last.
-    heard_at: Vec<u64>,
+    heard_at: Vec<Option<u64>>,
+    // When the last tick was.
+    now: u64,
+    // What passed the wire in this turn.
+    passed: Passed,
     // What was said of the member's own streams in this turn.
     claims: Claims,
     // Whether an entry of this turn may have changed what the member answers.
@@ -110,11 +113,13 @@ struct Watch {
 
 fn watch_of(alloc: Global, config: Config, tally: Option<Arc<Tally, Global>>) -> Option<Watch> {
     let tally = tally?;
-    let heard_at = vec![in alloc; 0; usize::from(MEMBERS)].ok()?;
+    let heard_at = vec![in alloc; None; usize::from(MEMBERS)].ok()?;
     Some(Watch {
         config,
         presence: Presence::none(),
         heard_at,
+        now: 0,
+        passed: Passed::nothing(),
         claims: Claims::new(alloc),
         is_stale: false,
         tally,
@@ -123,6 +128,53 @@ fn watch_of(alloc: Global, config: Config, tally: Option<Arc<Tally, Global>>) ->
 }
 
 impl Watch {
+    fn see(&mut self, entry: &Entry) {
+        match &entry.input {
+            Input::Noise => self.tally.count_noise(entry.verdict),
+            Input::Heard(datagram) => {
+                self.is_stale = true;
+                let sender = datagram.sender();
+                let is_other = sender.number() != self.config.me().number();
+                if is_other && sender.number() < self.config.members() {
+                    self.passed.came = self.passed.came.wrapping_add(1);
+                    if let Some(last) = self.heard_at.get_mut(sender.index()) {
+                        *last = Some(entry.moment);
+                    }
+                }
+                if matches!(entry.verdict, Verdict::Ignored(_)) {
+                    self.tally.count_ignored();
+                    // If out of memory, an earlier run is told of by a later message.
+                    let _ = self.claims.note(self.config.me(), datagram);
+                }
+            }
+            Input::Ticked => self.tick(entry),
+            Input::Drew(..) => {
+                self.is_stale = true;
+                if let Some(drawop) = &entry.effects.drawn {
+                    self.tally.note_drawn(drawop.name.stream().page);
+                }
+            }
+            _ => {}
+        }
+    }
+
+    fn tick(&mut self, entry: &Entry) {
+        self.now = entry.moment;
+        let passed = &mut self.passed;
+        for datagram in entry.effects.outs.as_slice() {
+            passed.sent = passed.sent.wrapping_add(1);
+            match datagram {
+                Datagram::Request { .. } => passed.requests = passed.requests.wrapping_add(1),
+                Datagram::Repair { .. } => passed.repairs = passed.repairs.wrapping_add(1),
+                Datagram::Session { shown, .. } => {
+                    passed.sessions = passed.sessions.wrapping_add(1);
+                    passed.told_page = Some(*shown);
+                }
+                Datagram::Data(_) => {}
+            }
+        }
+    }
+
     // Shows what the wire lost and dropped, if that changed.
     fn show_wire(&mut self, counts: &WireCounts) {
         if *counts != self.counts {
@@ -142,7 +194,11 @@ impl Watch {
                 self.tally.note_earlier();
             }
         }
+        self.look_for_silence();
         self.tally.show_presence(self.presence);
+        self.tally.count(&self.passed);
+        self.passed = Passed::nothing();
+        self.tally.look_for_anybody(self.config.members(), self.now);
     }
 
     fn look_for_left<W: Words + Drop>(&mut self, agent: &Agent<W>) {
@@ -155,79 +211,23 @@ impl Watch {
         }
     }
 
-    fn see(&mut self, entry: &Entry) {
-        match &entry.input {
-            Input::Noise => self.tally.count_noise(),
-            Input::Heard(datagram) => self.hear(entry, datagram),
-            Input::Ticked => self.tick(entry),
-            Input::Drew(..) => self.note_drawn(entry),
-            _ => {}
-        }
-    }
-
-    fn note_drawn(&mut self, entry: &Entry) {
-        self.is_stale = true;
-        if let Some(drawop) = &entry.effects.drawn {
-            self.tally.note_drawn(drawop.name.stream().page);
-        }
-    }
-
-    fn tick(&mut self, entry: &Entry) {
-        self.look_for_silence(entry.moment);
-        for datagram in entry.effects.outs.as_slice() {
-            if let Datagram::Session { shown, .. } = datagram {
-                self.tally.note_session(*shown);
-            }
-        }
-        // Who is alone sends to nobody.
-        if self.config.members() > 1 {
-            for datagram in entry.effects.outs.as_slice() {
-                self.tally.count_sent(datagram);
-            }
-        }
-    }
-
-    fn hear(&mut self, entry: &Entry, datagram: &Datagram) {
-        self.is_stale = true;
-        if is_of_other(self.config, datagram) {
-            self.tally.count_came();
-            self.note_heard(datagram.sender(), entry.moment);
-        }
-        if matches!(entry.verdict, Verdict::Ignored(_)) {
-            self.tally.count_ignored();
-            // If out of memory, an earlier run is told of by a later message.
-            let _ = self.claims.note(self.config.me(), datagram);
-        }
-    }
-
-    fn note_heard(&mut self, sender: Member, moment: u64) {
-        self.presence.hear(sender);
-        if let Some(last) = self.heard_at.get_mut(sender.index()) {
-            *last = moment;
-        }
-    }
-
     // Notes who was heard, and not for long.
-    fn look_for_silence(&mut self, now: u64) {
+    fn look_for_silence(&mut self) {
         for number in 0..MEMBERS {
             if let Some(member) = Member::new(number) {
-                self.look_at(member, now);
+                self.look_at(member);
             }
         }
     }
 
-    fn look_at(&mut self, member: Member, now: u64) {
-        let Some(last) = self.heard_at.get(member.index()) else {
+    fn look_at(&mut self, member: Member) {
+        let Some(Some(last)) = self.heard_at.get(member.index()) else {
             return;
         };
-        if self.presence.is_heard(member) && now.saturating_sub(*last) >= SILENCE {
+        let silence = self.now.saturating_sub(*last);
+        self.presence.hear(member);
+        if silence >= SILENCE {
             self.presence.fall_silent(member);
         }
     }
-}
-
-// Whether another member of the session sent it.
-fn is_of_other(config: Config, datagram: &Datagram) -> bool {
-    let sender = datagram.sender().number();
-    sender != config.me().number() && sender < config.members()
 }

@@ -10,9 +10,11 @@ ghost use Rattle.srm_member.specs.declared.fault.MemberFault.TheVariants.{Script
 ghost use Rattle.srm_member.specs.Statuses.{fault_of, fault_of_lists, fault_of_live, fault_of_bind, fault_of_binding, fault_of_key, fault_of_record, fault_with_call, fault_with_cause, lacks_memory, status_of_member};
 ghost use Rattle.srm_member.specs.TakenText.{has_close};
 
+use crate::fault_line::{FailedCall, RecordLine};
 use srm_guarded::KeyFileFault;
 use srm_names::PageMsg;
 use srm_node::{NodeFault, WorkEnd, Worked};
+use srm_options::SystemCause;
 use srm_record::Unwritten;
 use srm_script::{FAILED, RAN_OUT, ScriptFault, WIRE_FAILED, print_fault};
 use srm_udp::WireFailure;
@@ -33,10 +35,10 @@ pub enum MemberFault {
     #[error("srm: wire")]
     Wire,
     /// This address can't be bound, for this cause.
-    #[error("srm: cannot bind {0}: {1}")]
+    #[error("srm: cannot bind {0}: {cause}", cause = SystemCause::of_address(*.1))]
     Binding(SocketAddr, ErrorKind),
     /// This call of the socket failed, for the cause that it has.
-    #[error("srm: {0}")]
+    #[error("srm: {}", FailedCall(.0))]
     Call(WireFailure),
     /// All turns were spent before the run ended.
     #[error("srm: turns")]
@@ -48,7 +50,7 @@ pub enum MemberFault {
     #[error("srm: record")]
     Record,
     /// The file of its record, at this path, can't be made, or hasn't the whole record, for this cause.
-    #[error("srm: record {0}")]
+    #[error("{}", RecordLine(.0))]
     Unrecorded(Unwritten),
 }
 

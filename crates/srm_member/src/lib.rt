@@ -22,6 +22,7 @@
 
 mod dealing;
 mod fault;
+mod fault_line;
 mod joining;
 mod noting;
 mod pens;
@@ -34,6 +35,7 @@ mod station;
 
 pub use dealing::deal;
 pub use fault::MemberFault;
+pub use fault_line::{Explained, RecordLine};
 pub use joining::{join_pens, settle_lanes};
 pub use noting::{Keeping, Notes, Noting, noted_call, noted_cause, share_keeping, told_with};
 pub use pens::{Waking, send_stroke, share_waker, wake};

@@ -16,4 +16,5 @@ returns-in_default g c = λ whole. not_whole (Script Memory) _ _ (ap Some c.out_
 
 pub returns : goal.returns
 returns g c = λ whole.
-    lives_from (calls_of NeverFalls g.X.Wire.receives g.X.Wire.sends g.X.Wire.pauses) g.S.PageSink.sees g.F.Write.contents c.args.turns (g.I.Read.remaining c.args.reader) c.args.station.node c.control.new.self c.in-Ok.control c.args.sinks.items c.in-Ok.ensures.1 (c.host_live-run.ensures (c.end.ensures whole))
+    let end = c.end.ensures whole in
+    lives_from (calls_of NeverFalls g.X.Wire.receives g.X.Wire.sends g.X.Wire.pauses) g.S.PageSink.sees g.F.Write.contents c.args.turns (g.I.Read.remaining c.args.reader) c.args.station.node c.control.new.self c.in-Ok.control c.args.sinks.items c.in-Ok.ensures.1 (c.host_live-run.ensures end.0 end.1)

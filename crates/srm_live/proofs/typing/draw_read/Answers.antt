@@ -1,6 +1,6 @@
-use Rattle.std.proofs.Common.{◌≡◌, arith}
+use Rattle.std.proofs.Common.{◌≡◌, arith, rules}
 use Rattle.std.specs.Prelude.{Some}
-use Rattle.srm_live.proofs.TypedLines.{read_none, read_drawn, read_cut, read_last, same_stays, same_typed, same_some, same_last}
+use Rattle.srm_live.proofs.TypedLines.{read_none, read_drawn, read_left, read_cut, read_last, same_stays, same_typed, same_left, same_some, same_last, typed_if, left_if}
 use Rattle.srm_live.proofs.typing.draw_read.Goals as goal
 
 pub returns-in-Some-eq0-clause-all : goal.returns-in-Some-eq0-clause-all
@@ -16,9 +16,18 @@ returns-in-Some-eq0-clause-prefix g c =
 pub loop-preserved : goal.loop-preserved
 loop-preserved g c = record {
   room = omega arith;
-  same = same_typed _ _ _ _ _ _ _ _ c.loop.invariant.same c.in_ok-draw_bytes-in-Some-2.ensures.all;
-  reads = read_drawn _ _ _ _ _ _ _ _ _ _ _ _ _ c.loop.invariant.reads c.in_ok-read_next.ensures.reads c.in-Some-2.is c.in_ok-draw_bytes-in-Some-2.ensures.all;
+  same = same_typed _ _ _ _ _ _ _ _ c.loop.invariant.same (typed_if _ _ _ _ _ _ _ _ c.in_ok-draw_bytes-in-Some-2.ensures.all (search rules));
+  reads = read_drawn _ _ _ _ _ _ _ _ _ _ _ _ _ c.loop.invariant.reads c.in_ok-read_next.ensures.reads c.in-Some-2.is (typed_if _ _ _ _ _ _ _ _ c.in_ok-draw_bytes-in-Some-2.ensures.all (search rules));
 }
+
+pub returns-then-not-branch-clause-all : goal.returns-then-not-branch-clause-all
+returns-then-not-branch-clause-all g c = (read_left _ _ _ _ _ _ _ _ _ _ _ c.loop.invariant.reads c.in_ok-read_next.ensures.reads c.in-Some-2.is (left_if _ _ _ _ _ _ _ _ c.in_ok-draw_bytes-in-Some-2.ensures.all (search rules))).0
+
+pub returns-then-not-branch-clause-prefix : goal.returns-then-not-branch-clause-prefix
+returns-then-not-branch-clause-prefix g c = (read_left _ _ _ _ _ _ _ _ _ _ _ c.loop.invariant.reads c.in_ok-read_next.ensures.reads c.in-Some-2.is (left_if _ _ _ _ _ _ _ _ c.in_ok-draw_bytes-in-Some-2.ensures.all (search rules))).1
+
+pub returns-then-not-branch-clause-same : goal.returns-then-not-branch-clause-same
+returns-then-not-branch-clause-same g c = same_left _ _ _ _ _ _ c.loop.invariant.same (left_if _ _ _ _ _ _ _ _ c.in_ok-draw_bytes-in-Some-2.ensures.all (search rules))
 
 pub loop-preserved-in-None-2 : goal.loop-preserved-in-None-2
 loop-preserved-in-None-2 g c = record {
