@@ -1,2 +1,3 @@
 pub mod FilesRead
+pub mod Refused
 pub mod Worded

@@ -7,6 +7,7 @@ use Rattle.srm_played.specs.declared.fault.PictureFault.{PictureFault}
 use Rattle.srm_played.specs.declared.fault.PictureFault.TheVariants as pictures
 use Rattle.srm_verdicts.specs.declared.fault.AuditFault.{AuditFault}
 use Rattle.srm_verdicts.specs.declared.fault.AuditFault.TheVariants.{NoScript, Output, Memory}
+use Rattle.srm_verdicts.specs.declared.no_script.NoScript.{NoScript as WhyNone}
 use Rattle.srm_verdicts.specs.declared.no_script.NoScript.TheVariants.{TooManyEvents, Unread}
 
 -- why standard output can't be written, by what the system says
@@ -24,8 +25,8 @@ abbrev pub fault_of_picture : PictureFault → AuditFault
 fault_of_picture (pictures.Script fault) = fault_of_script fault
 fault_of_picture pictures.TooManyEvents = NoScript TooManyEvents
 
--- a run isn't a script or a picture: memory ran out, or none says it
-abbrev pub IsUnsaid : AuditFault → Type 0
-IsUnsaid Memory = Unit {0}
-IsUnsaid (NoScript why) = Unit {0}
-IsUnsaid fault = ⊥
+-- a run isn't a script or a picture: memory ran out, or none says it, for such a cause
+abbrev pub IsUnsaid : (WhyNone → Type 0) → AuditFault → Type 0
+IsUnsaid Why Memory = Unit {0}
+IsUnsaid Why (NoScript why) = Why why
+IsUnsaid Why fault = ⊥

@@ -3,6 +3,8 @@ pub mod AuditStatuses
 pub mod Examples
 pub mod Shown
 pub mod TextExamples
+pub mod Unsaid
+pub mod UnsaidExamples
 pub mod Calls
 pub mod DetailExamples
 pub mod Details

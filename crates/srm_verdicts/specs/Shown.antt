@@ -1,5 +1,5 @@
 -- What standard output has once records were judged.
-use Rattle.std.specs.Prelude.{◌≡◌, ◌⊎◌, ℕ, List, length, All, Option, string_bytes}
+use Rattle.std.specs.Prelude.{◌≡◌, ◌⊎◌, ℕ, ◌≤◌, List, length, All, Option, None, string_bytes}
 use Rattle.std.specs.Io.KnownBytes.{Appends, Keeps}
 use Rattle.srm_output.specs.Writing.{AppendsFront}
 use Rattle.srm_frames.specs.declared.reading.Record.{Record}
@@ -11,16 +11,19 @@ use Rattle.srm_audited.specs.declared.unjudged.Unjudged.{Unjudged}
 use Rattle.srm_audited.specs.declared.unjudged.Unjudged.TheVariants as unjudgeds
 use Rattle.srm_audited.specs.declared.verdict.Verdict.{Verdict}
 use Rattle.srm_audited.specs.declared.verdict.Verdict.TheVariants.{Honest}
+use Rattle.srm_played.specs.declared.limits.TheConstants.{MOST_EVENTS}
+use Rattle.srm_verdicts.specs.declared.no_script.TheConstants.{LONGEST_SCRIPT}
 use Rattle.srm_verdicts.specs.declared.fault.AuditFault.{AuditFault}
 use Rattle.srm_verdicts.specs.declared.fault.AuditFault.TheVariants as faults
 use Rattle.srm_verdicts.specs.AuditStatuses.{status_of, status_of_fault}
 use Rattle.srm_verdicts.specs.Details.{path_at}
+use Rattle.srm_verdicts.specs.Unsaid.{events_in, unsaid, IsRefusedPicture, IsRefusedScript}
 use Rattle.srm_verdicts.specs.VerdictTexts.{verdict_text}
 
--- A verdict is shown in words, but an honest run as a script or a picture where one is asked for.
+-- A verdict is shown in words, but an honest run as a script or a picture where one is asked for: one that a script says, with no more bytes or events than these have.
 abbrev pub IsShown : AuditOutput → List (List ℕ) → List (List ℕ) → List Record → Verdict → List ℕ → Type 0
-IsShown Script names paths rs (Honest t) text = Unit {0}
-IsShown Picture names paths rs (Honest t) text = Unit {0}
+IsShown Script names paths rs (Honest t) text = (unsaid rs t.entries ≡ None) × (length text ≤ LONGEST_SCRIPT)
+IsShown Picture names paths rs (Honest t) text = (unsaid rs t.entries ≡ None) × (events_in t.entries ≤ MOST_EVENTS)
 IsShown output names paths rs v text = text ≡ verdict_text names paths rs v
 
 -- the text of a verdict on the records was printed, and the status is its own
@@ -40,12 +43,12 @@ pub record IsCutShort (output : AuditOutput) (names paths : List (List ℕ)) (rs
   pub shown : IsShown output names paths rs verdict text
   pub printed : AppendsFront old new text
 
--- A fault for which there is no text of a verdict: memory ran out, or an honest run is no script or picture as one is asked for.
-abbrev pub IsUnshown : AuditOutput → Verdict → AuditFault → Type 0
-IsUnshown output v faults.Memory = Unit {0}
-IsUnshown Script (Honest t) (faults.NoScript why) = Unit {0}
-IsUnshown Picture (Honest t) (faults.NoScript why) = Unit {0}
-IsUnshown output v fault = ⊥
+-- A fault for which there is no text of a verdict: memory ran out, or an honest run of these records is no script or picture, as one is asked for, for this cause.
+abbrev pub IsUnshown : AuditOutput → List Record → Verdict → AuditFault → Type 0
+IsUnshown output rs v faults.Memory = Unit {0}
+IsUnshown Script rs (Honest t) (faults.NoScript why) = IsRefusedScript rs t.entries why
+IsUnshown Picture rs (Honest t) (faults.NoScript why) = IsRefusedPicture rs t.entries why
+IsUnshown output rs v fault = ⊥
 
 -- What is told where records weren't judged: of the one that is at fault, its path and the line; or that memory ran out.
 abbrev pub IsFaultOf : List (List ℕ) → Unjudged → AuditFault → Type 0
@@ -55,7 +58,7 @@ IsFaultOf paths unjudged fault = ⊥
 
 -- a fault for which no verdict on these records was printed: they weren't judged, or the verdict isn't shown as asked
 abbrev pub IsUnprinted : AuditOutput → List (List ℕ) → List Record → AuditFault → Type 0
-IsUnprinted output paths rs fault = ((unjudged : Unjudged) × IsUnjudged rs unjudged × IsFaultOf paths unjudged fault) ⊎ ((v : Verdict) × IsVerdict rs v × IsUnshown output v fault)
+IsUnprinted output paths rs fault = ((unjudged : Unjudged) × IsUnjudged rs unjudged × IsFaultOf paths unjudged fault) ⊎ ((v : Verdict) × IsVerdict rs v × IsUnshown output rs v fault)
 
 -- What is printed where a fault came of these records: nothing where there is no text, and else a front of one.
 abbrev pub Leaves : AuditOutput → List (List ℕ) → List (List ℕ) → List Record → AuditFault → Option (List ℕ) → Option (List ℕ) → Type 0

@@ -2,9 +2,10 @@
 
 ghost use Rattle.std.specs.Prelude.{◌≡◌, option_map};
 ghost use Rattle.srm_audited.specs.Sessions.{is_cut};
+ghost use Rattle.srm_verdicts.specs.Unsaid.{events_in, is_event};
 ghost use Rattle.srm_verdicts.specs.VerdictTexts as spec;
 
-use srm_entries::Config;
+use srm_entries::{Config, Entry, Input};
 use srm_frames::{Call, Line, Record, RecordEnd};
 use srm_names::Member;
 
@@ -55,6 +56,22 @@ pub fn session_of(records: &[Record]) -> (u32, u8)
         [] => (0, 0),
         [first, ..] => told_by(first.beginning.config),
     }
+}
+
+/// Returns how many events the script of a run with these entries has: one for each that isn't noise.
+pub fn events_in(entries: &[Entry]) -> usize
+    ensures { result ≡ events_in entries.now }
+{
+    entries
+        .iter()
+        .filter(|entry| is_event(&entry.input))
+        .count()
+}
+
+fn is_event(input: &Input) -> bool
+    ensures { result ≡ is_event input.now }
+{
+    !matches!(input, Input::Noise)
 }
 
 fn told_by(config: Config) -> (u32, u8)

@@ -8,6 +8,7 @@ ghost use Rattle.srm_verdicts.specs.declared.fault.AuditFault.TheVariants.{Memor
 
 use crate::no_script::NoScript;
 use srm_frames::RecordFault;
+use srm_options::SystemCause;
 use srm_played::PictureFault;
 use srm_script::{FAILED, RAN_OUT, ScriptFault, print_fault};
 use std::alloc::AllocError;
@@ -19,7 +20,7 @@ use thiserror::Error;
 #[derive(Debug, Drop, Error)]
 pub enum AuditFault {
     /// The file at this path can't be opened or read, for this cause.
-    #[error("srm: cannot read record {0}: {1}")]
+    #[error("srm: cannot read record {0}: {cause}", cause = SystemCause::of_file(*.1))]
     Unreadable(String, ErrorKind),
     /// The file at this path is no record.
     #[error("srm: cannot use record {0}: {1}")]

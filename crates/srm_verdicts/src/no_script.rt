@@ -1,6 +1,10 @@
 //! Why a session can't be written as a script.
 
-use srm_entries::{Config, Entry, Input, Settings};
+ghost use Rattle.std.specs.Prelude.{◌≡◌};
+ghost use Rattle.std.specs.List.{list_all};
+ghost use Rattle.srm_verdicts.specs.Unsaid as spec;
+
+use srm_entries::{Config, Entry, Input};
 use srm_frames::Record;
 use thiserror::Error;
 
@@ -37,33 +41,42 @@ pub enum NoScript {
 }
 
 /// Returns why the run of these records can't be written as a script, whatever its length; `None` if it can. The first member that is at fault is named.
-pub fn find_unsaid(records: &[Record], entries: &[Entry]) -> Option<NoScript> {
-    let first = records.first()?;
-    for read in records {
-        let found = unsaid_of(read.beginning.config, read.beginning.made, first);
-        if found.is_some() {
-            return found;
-        }
+pub fn find_unsaid(records: &[Record], entries: &[Entry]) -> Option<NoScript>
+    ensures { result ≡ spec.unsaid records.now entries.now }
+{
+    let [first, ..] = records else {
+        return None;
+    };
+    if let Some(why) = unsaid_of_records(first.beginning.config, records) {
+        return Some(why);
     }
-    for entry in entries {
-        if !is_printable(&entry.input) {
-            return Some(NoScript::Stroke(entry.member.number()));
+    unsaid_of_entries(entries)
+}
+
+// Why no script says these members: the cause of the first that has one.
+fn unsaid_of_records(usual: Config, records: &[Record]) -> Option<NoScript>
+    ensures { result ≡ spec.unsaid_of_records usual records.now }
+{
+    for read in records {
+        if let Some(why) = unsaid_of(usual, read.beginning.config, read.beginning.made) {
+            return Some(why);
         }
     }
     None
 }
 
 // What no script says of a member with these settings that was made then.
-fn unsaid_of(config: Config, made: u64, first: &Record) -> Option<NoScript> {
+fn unsaid_of(usual: Config, config: Config, made: u64) -> Option<NoScript>
+    ensures { result ≡ spec.unsaid_of usual config made }
+{
     let member = config.me().number();
-    let usual = first.beginning.config;
     if made != 0 {
         return Some(NoScript::MadeLater(member));
     }
     if !has_usual_waits(config) {
         return Some(NoScript::Waits(member));
     }
-    if config.rate() != usual.rate() || config.depth() != usual.depth() {
+    if !has_bucket_of(usual, config) {
         return Some(NoScript::Buckets(member));
     }
     if config.least_distance() != usual.least_distance() {
@@ -72,17 +85,47 @@ fn unsaid_of(config: Config, made: u64, first: &Record) -> Option<NoScript> {
     None
 }
 
-fn has_usual_waits(config: Config) -> bool {
-    let usual = Settings::default();
-    config.c1() == usual.c1
-        && config.c2() == usual.c2
-        && config.d1() == usual.d1
-        && config.d2() == usual.d2
+fn has_usual_waits(config: Config) -> bool
+    ensures { result ≡ spec.has_usual_waits config }
+{
+    config.c1() == 2 && config.c2() == 2 && config.d1() == 1 && config.d2() == 1
 }
 
-fn is_printable(input: &Input) -> bool {
+fn has_bucket_of(usual: Config, config: Config) -> bool
+    ensures { result ≡ spec.has_bucket_of usual config }
+{
+    config.rate() == usual.rate() && config.depth() == usual.depth()
+}
+
+// The first stroke that no script says.
+fn unsaid_of_entries(entries: &[Entry]) -> Option<NoScript>
+    ensures { result ≡ spec.unsaid_of_entries entries.now }
+{
+    for entry in entries {
+        if !is_printable(&entry.input) {
+            return Some(NoScript::Stroke(entry.member.number()));
+        }
+    }
+    None
+}
+
+fn is_printable(input: &Input) -> bool
+    ensures { result ≡ spec.is_printable input.now }
+{
     match input {
-        Input::Drew(_, body) => body.iter().all(|byte| (b' '..=b'~').contains(byte)),
+        Input::Drew(_, body) => are_printable(body),
         _ => true,
     }
+}
+
+fn are_printable(body: &[u8]) -> bool
+    ensures { result ≡ list_all spec.is_printable_byte body.now }
+{
+    body.iter().all(is_printable_byte)
+}
+
+fn is_printable_byte(byte: &u8) -> bool
+    ensures { result ≡ spec.is_printable_byte byte.now }
+{
+    (b' '..=b'~').contains(byte)
 }

@@ -1,7 +1,8 @@
 //! An honest run as a script.
 
-ghost use Rattle.std.specs.Prelude.{◌≡◌, ◌≤◌, length, IfErr, IfOk};
+ghost use Rattle.std.specs.Prelude.{◌≡◌, ◌≤◌, length, None, IfErr, IfOk, OnOk};
 ghost use Rattle.srm_verdicts.specs.AuditFaults.{IsUnsaid};
+ghost use Rattle.srm_verdicts.specs.Unsaid.{IsRefusedScript, unsaid};
 ghost use Rattle.srm_verdicts.specs.declared.no_script.TheConstants.{LONGEST_SCRIPT};
 ghost use Rattle.srm_verdicts.specs.declared.fault.AuditFault.TheVariants.{Memory};
 
@@ -24,7 +25,8 @@ use std::io::Write;
 /// Fails with [`AuditFault::NoScript`] if a script can't say it, or would have more than 1,000,000 bytes, and if out of memory.
 pub fn script_of(alloc: Global, records: &[Record], trace: &Trace) -> Result<Vec<u8>, AuditFault>
     ensures fits { IfOk result (λ text. length text.items ≤ LONGEST_SCRIPT) }
-    ensures unsaid { IfErr result IsUnsaid }
+    ensures said { OnOk result (unsaid records.now trace.now.entries ≡ None) }
+    ensures unsaid { IfErr result (IsUnsaid (IsRefusedScript records.now trace.now.entries)) }
 {
     let entries = trace.entries();
     if let Some(unsaid) = find_unsaid(records, entries) {
