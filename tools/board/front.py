@@ -1,6 +1,8 @@
 """A server before a board's own: it serves the page as web/ has it, and hands every other request on. So a test of the page needs no program compiled anew."""
 import http.client
 import http.server
+import select
+import socket
 import threading
 
 from page import page, policy
@@ -16,7 +18,27 @@ class Front:
             protocol_version = 'HTTP/1.1'
 
             def do_GET(self):
-                self.hand_on(None)
+                if self.headers.get('upgrade'):
+                    self.tunnel()
+                else:
+                    self.hand_on(None)
+
+            def tunnel(self):
+                """Hands a WebSocket on, as it comes."""
+                self.close_connection = True
+                head = '%s\r\n' % self.requestline + ''.join('%s: %s\r\n' % (name, value.replace(':%d' % self.server.server_port, ':%d' % behind)) for name, value in self.headers.items())
+                try:
+                    with socket.create_connection(('127.0.0.1', behind), timeout=10) as there:
+                        there.sendall(head.encode() + b'\r\n')
+                        ends = {there: self.connection, self.connection: there}
+                        while True:
+                            for end in select.select(list(ends), [], [], 60)[0]:
+                                data = end.recv(1 << 16)
+                                if not data:
+                                    return
+                                ends[end].sendall(data)
+                except OSError:
+                    pass
 
             def do_POST(self):
                 self.hand_on(self.rfile.read(int(self.headers.get('content-length', 0))))

@@ -123,6 +123,8 @@ class Session:
             origin = 'http://127.0.0.1:%d' % self.http[i]
             status, said = self.ask(i, 'POST', 'draw', {'x-srm': '1', 'Origin': origin}, '\n'.join(lines).encode())
             at += int(said or 0) + (status != 200)
+            if status == 200 and said == b'0':
+                time.sleep(0.01)
 
     def ask(self, i, method, path, headers, body=None):
         """The status and the body of an answer, of a path behind the page's own."""
@@ -132,7 +134,13 @@ class Session:
         return r.status, r.read()
 
     def told(self, i):
-        return json.loads(self.ask(i, 'GET', 'told', {'x-srm': '1'})[1])
+        """All that member i tells a tab that has nothing, which is 100 messages at a time."""
+        taken = []
+        while True:
+            told = json.loads(self.ask(i, 'GET', 'told?from=%d' % len(taken), {'x-srm': '1'})[1])
+            taken += told['taken']
+            if len(told['taken']) < 100:
+                return {**told, 'taken': taken}
 
     def close(self):
         for it in self.fronts:

@@ -2,7 +2,8 @@
 const WHY = { 1: "the member is leaving", 2: "the member has left", 3: "all eight pages are taken", 4: "you have drawn as much on this page as a page holds: begin a new page", 5: "the stroke is too long", 6: "memory ran out" };
 // The member was started anew, at the same address: what the earlier run didn't take is drawn by this one.
 function reset() {
-  unsent.push(...queue);
+  unsent.push(...queue.map(line => ({ line, isNumbered: false, isBack: false })));
+  for (const one of unsent) one.isNumbered = false;
   from = happened = 0; run = null; pages = new Map(); slots = []; holes = []; reaches = []; asked = new Map(); mended = new Map(); left = new Set(); present = new Set(); heard = []; heardAt = []; quietSince = Date.now(); known = 0;
   kept.page = null; last = null; opening = null; pending.clear(); awaited.clear(); queue.length = 0; pasts.clear(); chosen.clear(); inbox.clear(); accounts.clear(); refresh();
 }
@@ -13,7 +14,6 @@ function end() {
   if (last) showPanels(); else showState();
 }
 function begin(told) {
-  recall(told);
   run = told.run; me = told.me; members = told.members; called = told.names || []; quietSince = Date.now(); isLoading = true; beganAt = performance.now();
   $("session").textContent = `session ${told.session}`;
   document.title = `Ringyew ${told.session}: ${called[me] || `member ${me}`}`;

@@ -1,7 +1,8 @@
 // What is drawn here, on its way to the member.
 const pending = new Set();      // what was drawn here and hasn't come back whole
 const awaited = new Map();      // of each page and body the strokes that await it
-const queue = [];               // bodies to send, in order, each with its page
+const queue = [];               // bodies to send, in order, each with its page. The first has the number behind `settled`
+let settled = 0;                // up to this number all that this tab drew is settled: the member took it, or said that it didn't
 let most = POSTED, isPumping = false;
 // Of each page what this tab did, and what other tabs of this member did, by the four signs that begin their steps.
 const pasts = new Map();
@@ -48,46 +49,73 @@ function batch() {
   }
   return lines;
 }
-// Whether a request that failed was heard isn't known: what it drew comes back, and isn't sent again.
-async function afterFailure() {
-  do await pause(500); while (failed && !isOver);
-  while (queue.length && !awaited.has(queue[0])) queue.shift();
+// The member says up to which number all is settled. A number that it doesn't know any more begins anew: what was on its way then may be drawn or not.
+function settleTo(number) {
+  let count = number - settled;
+  settled = number;
+  if (count < 0) {
+    for (const line of queue.splice(0, onWay)) refuse(line, "it may be there all the same, since the member doesn't know this window any more");
+    for (const one of unsent) one.isNumbered = false;
+  }
+  onWay = 0;
+  while (count > 0 && unsent.length && unsent[0].isNumbered) { unsent.shift(); count--; }
+  if (count > 0) queue.splice(0, count);
 }
+function refuse(line, why) { if (line !== undefined) { settle(...partsOf(line)); toast("Not drawn: " + why); } }
+const partsOf = key => { const at = key.indexOf(" "); return [key.slice(0, at), key.slice(at + 1)]; };
+let onWay = 0;          // so many of the queue were sent and not answered
 async function pump() {
-  if (isPumping) return;
+  if (isPumping || isLoading) return;
   isPumping = true;
   try {
     for (;;) {
       if (!queue.length) cutNow();
       if (!queue.length || isOver) break;
-      const lines = batch();
-      let taken = 0;
-      try { taken = await post(lines); } catch (e) { await afterFailure(); }
-      queue.splice(0, taken);
+      const lines = batch(), before = settled;
+      onWay = lines.length;
+      // Where the connection ends before an answer, the next one begins with what is settled.
+      try { await post(lines); } catch (e) { while (!isGreeted && !isOver) await pause(50); }
+      const taken = settled - before;
       // What a full member has no place for isn't sent again and again.
       most = taken < lines.length ? Math.max(LITTLE, most / 2) : Math.min(POSTED, most * 2);
-      if (!taken) await pause(10);
+      if (taken <= 0) await pause(10);
     }
   } finally { isPumping = false; }
 }
 
-// What the member didn't take before a reload is kept, and sent behind it, but for what the member's list has already.
-const SETTLED = 700;    // so long after loading a request that was on its way then has come back
+// What the member didn't take before a reload is kept with its numbers, and sent behind it under the same. What an earlier run of the member didn't take has none: it is sent
+// but for what the member's list has already.
+const SETTLED = 700;    // so long after loading what was on its way then has come back
 const unsent = [];
-addEventListener("pagehide", () => keepStored(TAB, "unsent", { run, lines: isOver ? [] : [...unsent, ...queue] }));
-function resumed(name, latin) { const at = unsent.length ? unsent.indexOf(`${name} ${textOf(latin)}`) : -1; if (at >= 0) unsent.splice(at, 1); }
-function recall(told) {
-  const kept = stored(TAB, "unsent", null);
-  keepStored(TAB, "unsent", null);
-  if (kept && kept.run === told.run) unsent.push(...kept.lines);
+// What the window before left, until the member says in which run it is.
+let inherited = stored(TAB, "unsent", null);
+keepStored(TAB, "unsent", null);
+const ownLines = () => [...unsent.filter(one => one.isNumbered).map(one => one.line), ...queue, ...unsent.filter(one => !one.isNumbered).map(one => one.line)];
+addEventListener("pagehide", () => keepStored(TAB, "unsent", isOver ? null : inherited ? { ...inherited, lines: [...inherited.lines, ...ownLines()] } : { run, settled, lines: ownLines() }));
+function resumed(name, latin) {
+  const line = `${name} ${textOf(latin)}`, one = unsent.find(one => !one.isBack && one.line === line);
+  if (one) one.isBack = true;
+}
+// What was left in an earlier run is gone; what was drawn before any was known is of this one.
+function recall(now, number) {
+  const left = inherited;
+  inherited = null;
+  if (!left || left.run !== null && left.run !== now) return;
+  settled = left.run === null ? number : left.settled;
+  unsent.push(...left.lines.map(line => ({ line, isNumbered: true, isBack: false })));
 }
 function resume() {
-  if (unsent.length) setTimeout(() => {
-    for (const line of unsent.splice(0)) {
-      const [name, ...rest] = line.split(" "), body = rest.join(" "), stroke = strokeIn(body) || {};
-      if (!pages.has(name)) pages.set(name, madePage(name, null));
-      give(stroke.kind === "more" || stroke.spans ? { kind: stroke.kind, id: stroke.id, shapes: [], looks: [] } : stroke, name, [body]);
-    }
-  }, SETTLED);
+  const behind = queue.splice(0);
+  // What came back already is sent again under its number, which the member knows.
+  for (const one of unsent.filter(one => one.isNumbered)) { if (one.isBack) queue.push(one.line); else giveAgain(one.line); }
+  queue.push(...behind);
+  unsent.splice(0, unsent.length, ...unsent.filter(one => !one.isNumbered));
+  if (unsent.length) setTimeout(() => { for (const one of unsent.splice(0)) if (!one.isBack) giveAgain(one.line); }, SETTLED);
+  pump();
+}
+function giveAgain(line) {
+  const [name, body] = partsOf(line), stroke = strokeIn(body) || {};
+  if (!pages.has(name)) pages.set(name, madePage(name, null));
+  give(stroke.kind === "more" || stroke.spans ? { kind: stroke.kind, id: stroke.id, shapes: [], looks: [] } : stroke, name, [body]);
 }
 addEventListener("beforeunload", e => { endWords(); if (shaping) lift(); if (unsentAt(Date.now()) && !isOver) e.preventDefault(); });

@@ -9,8 +9,10 @@ function stored(store, key, otherwise) { try { return JSON.parse(window[store].g
 function keepStored(store, key, value) { try { window[store].setItem("srm " + key, JSON.stringify(value)); } catch (e) { } }
 const TAB = "sessionStorage", ALL = "localStorage";
 // Four signs begin each step of this tab. A copy of a tab that is still open gets others.
-const tab = stored(TAB, "closed", false) && stored(TAB, "tab", null) || Math.random().toString(36).slice(2, 6).padEnd(4, "0");
-keepStored(TAB, "tab", tab); keepStored(TAB, "closed", false);
+const wasClosed = stored(TAB, "closed", false), tab = wasClosed && stored(TAB, "tab", null) || Math.random().toString(36).slice(2, 6).padEnd(4, "0");
+// By this number the member knows what this tab drew, also after a reload.
+const tabNumber = wasClosed && stored(TAB, "number", null) || String(crypto.getRandomValues(new BigUint64Array(1))[0]);
+keepStored(TAB, "tab", tab); keepStored(TAB, "number", tabNumber); keepStored(TAB, "closed", false);
 addEventListener("pagehide", () => keepStored(TAB, "closed", true));
 addEventListener("pageshow", () => keepStored(TAB, "closed", false));
 let steps = stored(TAB, "steps", 0);

@@ -49,17 +49,18 @@ where
     ensures station { IfOk result (λ b. IsBoardStation options seal b.0.node.view b.0.taps.items b.0.pens.items) }
     ensures begins { IfOk result (λ b. BeginsIn F.contents file options.seed b.0.node.view.journal.start b.0.node.begins) }
 {
-    match watch(rt, alloc, shared) {
+    match watch(rt, alloc, shared, options.config.members()) {
         Ok(watching) => bind_watched(rt, alloc, options, seal, file, shared, watching),
         Err(_) => Err(MemberFault::Script(ScriptFault::Memory)),
     }
 }
 
-// A history that is shown to what the threads share. Fails only if out of memory.
+// A history of one of so many members that is shown to what the threads share. Fails only if out of memory.
 fn watch<R: Wait + Copy + Drop>(
     rt: &R,
     alloc: Global,
     shared: &Shared,
+    members: u8,
 ) -> Result<Watching<R>, AllocError>
     ensures { IfOk result (λ watching. watching.past ≡ []) }
 {
@@ -67,7 +68,7 @@ fn watch<R: Wait + Copy + Drop>(
     let turning = Arc::try_clone(&shared.turning)?;
     let need = Arc::try_clone(&shared.need)?;
     let tally = Arc::try_clone(&shared.tally)?;
-    Ok(Watching::new(*rt, alloc, slate, turning, need, tally))
+    Ok(Watching::new(*rt, alloc, slate, turning, need, tally, members))
 }
 
 fn bind_watched<R, F>(

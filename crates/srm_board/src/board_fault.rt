@@ -7,7 +7,8 @@ ghost use Rattle.srm_board.specs.declared.board_fault.BoardFault.TheVariants.{Wa
 ghost use Rattle.srm_board.specs.BoardStatuses.{fault_of_end, fault_of_serve, out_of_memory, status_of_board};
 
 use srm_live::WAS_BEFORE;
-use srm_member::MemberFault;
+use srm_member::{Explained, MemberFault};
+use srm_options::SystemCause;
 use srm_script::{ScriptFault, WIRE_FAILED, print_fault};
 use std::alloc::AllocError;
 use std::io;
@@ -19,10 +20,10 @@ use thiserror::Error;
 #[derive(Debug, Drop, Error)]
 pub enum BoardFault {
     /// As of a member without a board: its key file can't be used, its address can't be bound, its run isn't whole, or memory ran out.
-    #[error("{0}")]
+    #[error("{}", Explained(.0))]
     Member(MemberFault),
     /// The board can't be served at this address, for this cause.
-    #[error("srm: cannot serve on {0}: {1}")]
+    #[error("srm: cannot serve on {0}: {cause}", cause = SystemCause::of_address(*.1))]
     Serving(SocketAddr, ErrorKind),
     /// The run was whole, but the member was in the session before. That is told as it is heard.
     #[error("")]
@@ -66,6 +67,7 @@ impl BoardFault {
         ensures greatest { result ≤ WAS_BEFORE }
     {
         match self {
+            BoardFault::Member(MemberFault::Wire) => print_fault(self, err, WIRE_FAILED),
             BoardFault::Member(fault) => fault.print(err),
             BoardFault::Serving(..) => print_fault(self, err, WIRE_FAILED),
             BoardFault::WasBefore => WAS_BEFORE,

@@ -44,8 +44,8 @@ use std::time;
 /// what it holds, as the options' `linger` says, and leaves with a farewell. Its wire drops what the options' `guard` says. The options' `stay`, `live` and `verbose`
 /// have no effect.
 ///
-/// `err` gets the address of the page once; within a second, once each, that the member was in the session before, why its first datagrams are dropped and why its record's
-/// file takes no more; at the end what the network refused and what was dropped, by cause; and a fault if there was one.
+/// `err` gets the address of the page once; within a second, once each, that the member was in the session before, that a datagram of another session came, that one came that is too long,
+/// that nobody was heard for ten seconds from the start, why its first datagrams are dropped and why its record's file takes no more; at the end what the network refused and what was dropped, by cause; and a fault if there was one.
 ///
 /// Returns the program's status: 0; 1 if the key file can't be used, or the record can't be made or written whole; 3 if the board can't be served at its address, the
 /// member's address can't be bound, or the socket or the clock fails, with the call that failed; 4 if memory ran out, a worker's too, or all turns were spent;

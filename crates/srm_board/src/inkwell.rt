@@ -108,12 +108,15 @@ fn draw_by<R: Wait>(rt: &R, pen: &mut Pen, page: Page, body: Bytes) -> Drawn
     }
 }
 
-/// The inkwell of a member, for the threads that serve its board.
+/// The inkwell of a member, for the thread that serves its board.
 #[derive(Drop)]
 pub struct SharedInkwell(pub Arc<Inkwell, Global>);
 
 impl Easel for SharedInkwell {
-    fn draw<R: Wait>(&self, rt: &R, page: Page, body: Bytes) -> Drawn {
+    // The producer is behind a lock, so nothing is said of it here.
+    ghost draws = { λ old page body drawn new. Unit {0} };
+
+    fn draw<R: Wait>(&mut self, rt: &R, page: Page, body: Bytes) -> Drawn {
         let drawn = self.0.ink.lock(rt).draw(rt, page, body);
         wake(&self.0.waker);
         drawn

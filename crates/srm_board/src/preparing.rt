@@ -38,7 +38,7 @@ pub struct Shared {
     pub turning: Arc<Turning, Global>,
     /// What others need of the member.
     pub need: Arc<Need, Global>,
-    /// What its wire lost and dropped, and whether it was in the session before.
+    /// What its wire lost and dropped, whether it was in the session before, and what tells that members are set differently or that nobody reaches it.
     pub tally: Arc<Tally, Global>,
 }
 

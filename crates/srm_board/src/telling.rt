@@ -17,8 +17,8 @@ pub fn tell_address<R: Wait, E: Write>(rt: &R, address: &str, desk: &BoardDesk<E
     }
 }
 
-/// Starts the thread that tells what befalls the member, once each: that it was in the session before, why its first datagrams are dropped, and why the record that notes it
-/// in `keeping` lacks something. The thread ends with the member's node, and returns what it told. Returns `None` if out of memory, or if no thread can be started.
+/// Starts the thread that tells what befalls the member, once each: that it was in the session before, what tells that members are set differently or that nobody reaches this one, why its
+/// first datagrams are dropped, and why the record that notes it in `keeping` lacks something. The thread ends with the member's node, and returns what it told. Returns `None` if out of memory, or if no thread can be started.
 pub fn start_telling<R, E>(
     rt: &R,
     tally: &Arc<Tally, Global>,

@@ -28,7 +28,7 @@ pub struct Watching<R: Wait + Drop> {
 
 impl<R: Wait + Drop> Watching<R> {
     /// Makes a history without entries, which is shown on this slate from now on, with what others need on this need, and on this tally what the wire
-    /// lost and dropped and that the member was in the session before.
+    /// lost and dropped, that the member was in the session before, and what tells that one of its `members` members is set differently or that nobody reaches this one.
     pub fn new(
         rt: R,
         alloc: Global,
@@ -36,6 +36,7 @@ impl<R: Wait + Drop> Watching<R> {
         turning: Arc<Turning, Global>,
         need: Arc<Need, Global>,
         tally: Arc<Tally, Global>,
+        members: u8,
     ) -> Watching<R>
         ensures { result.past ≡ [] }
     {
@@ -48,6 +49,7 @@ impl<R: Wait + Drop> Watching<R> {
                 turning,
                 need,
                 tally,
+                members,
                 counts: WireCounts::of_failures(0),
                 claims: Claims::new(alloc),
                 is_stale: false,
@@ -101,6 +103,8 @@ struct Watch<R: Wait + Drop> {
     turning: Arc<Turning, Global>,
     need: Arc<Need, Global>,
     tally: Arc<Tally, Global>,
+    // How many members the session has.
+    members: u8,
     // What the tally was told of the wire last.
     counts: WireCounts,
     // What was said of the member's own streams in this turn.
@@ -122,12 +126,27 @@ impl<R: Wait + Drop> Watch<R> {
 
     fn see(&mut self, entry: &Entry) {
         self.need.see(entry);
+        self.tally_up(entry);
         if is_idle(entry) {
             return;
         }
         self.show(entry);
         self.note_claims(entry);
         self.turn(entry);
+    }
+
+    // Tells the tally whether another member was heard, and what noise tells.
+    fn tally_up(&self, entry: &Entry) {
+        match &entry.input {
+            Input::Noise => self.tally.count_noise(entry.verdict),
+            Input::Ticked => self.tally.look_for_anybody(self.members, entry.moment),
+            Input::Heard(datagram) => {
+                if is_of_other(entry, datagram, self.members) {
+                    self.tally.count_came();
+                }
+            }
+            _ => {}
+        }
     }
 
     // Shows an entry under one lock.
@@ -202,6 +221,12 @@ fn page_heard(entry: &Entry) -> Option<Page> {
             Some(drawop.name.stream().page),
         _ => None,
     }
+}
+
+// Whether another one of so many members sent it.
+fn is_of_other(entry: &Entry, datagram: &Datagram, members: u8) -> bool {
+    let sender = datagram.sender().number();
+    sender != entry.member.number() && sender < members
 }
 
 fn is_idle(entry: &Entry) -> bool {

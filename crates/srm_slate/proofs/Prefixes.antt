@@ -14,7 +14,7 @@ part_front n from shown taken l (rest, e) = (drop n rest, ap (λ w. (shown ++ ta
     same = ap (drop from) (sym e) ∙ ap (λ k. drop k (shown ++ rest)) (sym l) ∙ drop-append_seam shown rest
 
 pub keeps_prefix : (from : ℕ) (taken told : List Taken) → told ≡ told_from from taken → KeepsPrefix from taken told
-keeps_prefix from taken told e = record { prefix = λ shown l p. subst (λ ts. IsPrefix (shown ++ ts) taken) (sym e) (part_front 1000 from shown taken l p) }
+keeps_prefix from taken told e = record { prefix = λ shown l p. subst (λ ts. IsPrefix (shown ++ ts) taken) (sym e) (part_front 100 from shown taken l p) }
 
 pub stays_behind : (taken : List Taken) (message : Taken) → StaysPrefix taken (taken ++ message ∷ [])
 stays_behind taken message shown p = front_more shown taken (message ∷ []) p

@@ -1,6 +1,6 @@
 -- Whom a board's server answers, what a tab is told, and what is missing, in examples.
 use Rattle.std.specs.Prelude.{◌≡◌, ℕ, true, false, List, [], ◌∷◌, length, replicate, slice_index, Some, None, codes, refl}
-use Rattle.std.proofs.Common.{ap, ◌∙◌, arith}
+use Rattle.std.proofs.Common.{ap, ◌∙◌, arith, inl, inr}
 use Rattle.srm_names.specs.FullName.{FullName}
 use Rattle.srm_names.specs.Names.{named, stream_on, first_page}
 use Rattle.srm_slate.specs.declared.asked.Method.{Method}
@@ -15,6 +15,8 @@ use Rattle.srm_slate.specs.declared.taken.Taken.{Taken}
 use Rattle.srm_slate.specs.Happenings.{newest}
 use Rattle.hex.specs.Hex.{encode_lower, encode_with}
 use Rattle.srm_slate.specs.Tokens.{IsToken}
+use Rattle.srm_slate.specs.RecordView.{RecordView}
+use Rattle.srm_slate.specs.Showing.{IsFront, Passes, of_slot}
 use Rattle.srm_slate.specs.Slates.{blank, told_from, with_missing, gained, heard_from}
 
 abbrev board : Server
@@ -57,6 +59,28 @@ a_page_of_another_port = refl
 a_form : judged board (record (page Post (codes "/k3/leave")) { is_marked = false }) ≡ Foreign
 a_form = refl
 
+-- as the board's own page opens a WebSocket
+abbrev websocket : Asking
+websocket = record (page Get (codes "/k3/live")) { is_marked = false }
+
+its_own_page_watches : judged board websocket ≡ Granted wish.Live
+its_own_page_watches = refl
+
+by_an_older_browser_too : judged board (record websocket { site = None }) ≡ Granted wish.Live
+by_an_older_browser_too = refl
+
+no_websocket_without_an_origin : judged board (record websocket { origin = None; is_marked = true }) ≡ Foreign
+no_websocket_without_an_origin = refl
+
+no_websocket_of_another_site : judged board (record websocket { origin = Some (codes "http://evil.example") }) ≡ Foreign
+no_websocket_of_another_site = refl
+
+no_websocket_of_another_port : judged board (record websocket { site = Some (codes "same-site") }) ≡ Foreign
+no_websocket_of_another_port = refl
+
+no_websocket_without_the_token : judged board (record websocket { path = codes "/live" }) ≡ Unknown
+no_websocket_without_the_token = refl
+
 nothing_is_drawn_by_asking : judged board (page Get (codes "/k3/draw")) ≡ Unknown
 nothing_is_drawn_by_asking = refl
 
@@ -72,6 +96,32 @@ a_page_of_another_name = refl
 abbrev left : ℕ → Taken
 left source = record { slot = 0; message = Left source }
 
+-- the worker of this page slot took the same
+abbrev left_at : ℕ → ℕ → Taken
+left_at slot source = record { slot = slot; message = Left source }
+
+a_front_is_shown : IsFront true (left 1 ∷ []) (left 1 ∷ left 2 ∷ [])
+a_front_is_shown = record { front = (left 2 ∷ [], refl); whole = λ lossless. let k : true ≡ false = lossless in cc }
+
+what_nobody_took_is_no_front : IsFront true (left 1 ∷ []) [] → ⊥
+what_nobody_took_is_no_front front = let same : left 1 ∷ front.front.0 ≡ [] = front.front.1 in cc
+
+without_a_loss_a_front_is_not_enough : IsFront false (left 1 ∷ []) (left 1 ∷ left 2 ∷ []) → ⊥
+without_a_loss_a_front_is_not_enough front = let same : left 1 ∷ [] ≡ left 1 ∷ left 2 ∷ [] = front.whole refl in cc
+
+a_message_is_kept : Passes (left 1) blank (record blank { taken = left 1 ∷ [] })
+a_message_is_kept = inl (refl, refl)
+
+or_it_is_lost_and_told_so : Passes (left 1) blank (record blank { is_lossy = true })
+or_it_is_lost_and_told_so = inr refl
+
+it_is_not_lost_in_silence : Passes (left 1) blank blank → ⊥
+it_is_not_lost_in_silence (inl (whole, kept)) = let same : [] ≡ left 1 ∷ [] = ap (λ (r : RecordView). r.taken) kept in cc
+it_is_not_lost_in_silence (inr lost) = let same : false ≡ true = ap (λ (r : RecordView). r.is_lossy) lost in cc
+
+of_one_page_slot : of_slot 3 (left_at 3 1 ∷ left_at 4 2 ∷ left_at 3 5 ∷ []) ≡ Left 1 ∷ Left 5 ∷ []
+of_one_page_slot = refl
+
 from_the_first : told_from 0 (left 1 ∷ left 2 ∷ []) ≡ left 1 ∷ left 2 ∷ []
 from_the_first = refl
 
@@ -84,8 +134,8 @@ who_has_all_is_told_nothing = refl
 so_is_who_asks_for_later_ones : told_from 7 (left 1 ∷ left 2 ∷ []) ≡ []
 so_is_who_asks_for_later_ones = refl
 
-a_thousand_at_once : length (told_from 1 (replicate 1002 (left 1))) ≡ 1000
-a_thousand_at_once = refl
+a_hundred_at_once : length (told_from 1 (replicate 102 (left 1))) ≡ 100
+a_hundred_at_once = refl
 
 -- the drawop with this number of member 1 on the first page
 abbrev drawop : ℕ → FullName

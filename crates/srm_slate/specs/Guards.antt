@@ -42,7 +42,7 @@ behind beginning text = if same_text (take (length beginning) text) beginning th
 
 -- what is asked for by the rest of a path
 abbrev pub wish_of : Method → List ℕ → Option Wish
-wish_of Get name = if same_text name [] then Some wish.Page else if same_text name (codes "told") then Some wish.Told else None
+wish_of Get name = if same_text name [] then Some wish.Page else if same_text name (codes "told") then Some wish.Told else if same_text name (codes "live") then Some wish.Live else None
 wish_of Post name = if same_text name (codes "draw") then Some wish.Draw else if same_text name (codes "leave") then Some wish.Leave else None
 wish_of Other name = None
 
@@ -65,10 +65,20 @@ is_same_origin _ host (Some origin) = is_host_of host (behind (codes "http://") 
 abbrev pub is_own : Asking → Bool
 is_own a = a.is_marked && (is_same_site a.site && is_same_origin a.method a.host a.origin)
 
+-- a WebSocket's origin is the host that the request itself names, and it must have one
+abbrev pub is_own_origin : Option (List ℕ) → Option (List ℕ) → Bool
+is_own_origin host None = false
+is_own_origin host (Some origin) = is_host_of host (behind (codes "http://") origin)
+
+-- a WebSocket comes from the server's own page: no script can mark it, and every browser says its origin
+abbrev pub is_live_own : Asking → Bool
+is_live_own a = is_same_site a.site && is_own_origin a.host a.origin
+
 -- The page is there for all who know its path, and all else for that page alone.
 abbrev pub granted : Asking → Option Wish → Judged
 granted a None = Unknown
 granted a (Some wish.Page) = Granted wish.Page
+granted a (Some wish.Live) = if is_live_own a then Granted wish.Live else Foreign
 granted a (Some w) = if is_own a then Granted w else Foreign
 
 abbrev pub judged_at : Server → Asking → Option (List ℕ) → Judged

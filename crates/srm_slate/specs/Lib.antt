@@ -1,8 +1,13 @@
 pub mod Examples
 pub mod Guards
+pub mod Hands
 pub mod Happenings
 pub mod HappeningsView
+pub mod Noting
 pub mod RecordView
-pub mod ShownView
+pub mod Showing
 pub mod Slates
+pub mod Strokes
+pub mod TabExamples
+pub mod Tabs
 pub mod Tokens

@@ -30,7 +30,7 @@ blank = record {
   has_ended = false;
 }
 
--- what a tab that has so many messages is told: the next 1,000
+-- what a tab that has so many messages is told: the next 100
 abbrev pub told_from : ℕ → List Taken → List Taken
 told_from from taken = take TOLD (drop from taken)
 

@@ -22,7 +22,7 @@ pub struct Asked<'a> {
     pub method: Method,
     /// Its path, without the query.
     pub path: &'a [u8],
-    /// The header `Host`: the server that it names.
+    /// The server that it names: in its target, if that has one, else in the header `Host`. Where both have one and they differ, it names none.
     pub host: Option<&'a [u8]>,
     /// The header `Sec-Fetch-Site`: from which kind of site the browser says that it comes.
     pub site: Option<&'a [u8]>,
@@ -46,7 +46,7 @@ pub fn asked_by(request: &Request<Bytes>) -> Asked<'_> {
     Asked {
         method: method_of(request.method().as_str()),
         path: request.uri().path().as_bytes(),
-        host: header(request, "host"),
+        host: host_of(request),
         site: header(request, "sec-fetch-site"),
         origin: header(request, "origin"),
         is_marked: header(request, "x-srm").is_some(),
@@ -61,8 +61,17 @@ fn method_of(name: &str) -> Method {
     }
 }
 
-// The first header with this name.
-fn header<'a>(request: &'a Request<Bytes>, name: &str) -> Option<&'a [u8]> {
+// A target with an authority stands above the header (RFC 9112, section 3.2.2). One that contradicts it is nobody's.
+fn host_of(request: &Request<Bytes>) -> Option<&[u8]> {
+    let host = header(request, "host");
+    match request.uri().authority() {
+        None => host,
+        Some(authority) => host.filter(|host| *host == authority.as_str().as_bytes()),
+    }
+}
+
+/// Returns the first header with this name.
+pub fn header<'a>(request: &'a Request<Bytes>, name: &str) -> Option<&'a [u8]> {
     let value = request.headers().get(name)?;
     Some(value.as_bytes())
 }

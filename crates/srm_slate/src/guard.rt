@@ -2,7 +2,7 @@
 
 ghost use Rattle.std.specs.Prelude.{◌≡◌, map, option_map, string_bytes};
 ghost use Rattle.std.specs.List.{list_any};
-ghost use Rattle.srm_slate.specs.Guards.{judged, same_text, wish_of, is_host, is_host_of, is_known, is_own, is_same_origin, is_same_site};
+ghost use Rattle.srm_slate.specs.Guards.{judged, same_text, wish_of, is_host, is_host_of, is_known, is_live_own, is_own, is_own_origin, is_same_origin, is_same_site};
 
 use crate::asked::{Asked, Method};
 use std::marker::Model;
@@ -14,6 +14,8 @@ const SAME_ORIGIN: &[u8] = b"same-origin";
 const PAGE: &[u8] = b"";
 
 const TOLD: &[u8] = b"told";
+
+const LIVE: &[u8] = b"live";
 
 const DRAW: &[u8] = b"draw";
 
@@ -46,6 +48,8 @@ pub enum Wish {
     Page,
     /// What is new.
     Told,
+    /// A WebSocket: it tells a tab what is new, and the tab draws by it.
+    Live,
     /// To draw strokes.
     Draw,
     /// That the member leaves.
@@ -92,6 +96,8 @@ impl Guard {
         match wish_in(asked.method, name) {
             None => Judged::Unknown,
             Some(Wish::Page) => Judged::Granted(Wish::Page),
+            Some(Wish::Live) if is_from_live(asked) => Judged::Granted(Wish::Live),
+            Some(Wish::Live) => Judged::Foreign,
             Some(wish) if is_from_page(asked) => Judged::Granted(wish),
             Some(_) => Judged::Foreign,
         }
@@ -128,6 +134,22 @@ fn is_from_page(asked: &Asked<'_>) -> bool
     asked.is_marked && is_of_site(asked.site) && is_of_origin(asked)
 }
 
+// Whether a WebSocket comes from this server's own page. A script can't mark it, but every browser says its origin.
+fn is_from_live(asked: &Asked<'_>) -> bool
+    ensures { result ≡ is_live_own asked.now }
+{
+    is_of_site(asked.site) && is_of_own(asked)
+}
+
+fn is_of_own(asked: &Asked<'_>) -> bool
+    ensures { result ≡ is_own_origin asked.now.host asked.now.origin }
+{
+    match asked.origin {
+        Some(origin) => is_host_in(asked.host, origin.strip_prefix(HTTP)),
+        None => false,
+    }
+}
+
 fn is_of_origin(asked: &Asked<'_>) -> bool
     ensures { result ≡ is_same_origin asked.now.method asked.now.host asked.now.origin }
 {
@@ -162,6 +184,7 @@ fn wish_in(method: Method, name: &[u8]) -> Option<Wish>
     match method {
         Method::Get if name == PAGE => Some(Wish::Page),
         Method::Get if name == TOLD => Some(Wish::Told),
+        Method::Get if name == LIVE => Some(Wish::Live),
         Method::Post if name == DRAW => Some(Wish::Draw),
         Method::Post if name == LEAVE => Some(Wish::Leave),
         _ => None,

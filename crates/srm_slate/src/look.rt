@@ -27,7 +27,7 @@ pub struct Counts {
 /// What is new to one tab, and how the member stands.
 #[derive(Drop)]
 pub struct Look {
-    /// What the workers took behind the tab's cursor, 1,000 messages at most.
+    /// What the workers took behind the tab's cursor, 100 messages at most.
     pub taken: Vec<Taken>,
     /// What befell the member since the tab last looked, of the newest 256.
     pub happenings: Vec<Happening>,

@@ -8,7 +8,7 @@ use std::alloc::AllocError;
 
 /// What the page may do: run what it brings along, and ask this server. Nothing else of the network is loaded, and no other page may frame it.
 pub const POLICY: &str =
-    "default-src 'none'; script-src 'sha256-rCtU2RK9bH3grHZZW1FR+5mqu21K0OBOa5K4O4blkf4='; style-src 'sha256-9sHKMZsOPnXi1AK+WOWPLKz8U20IZv3eLszPMndEAE0='; img-src data: blob:; connect-src 'self'; base-uri 'none'; form-action 'none'; frame-ancestors 'none'";
+    "default-src 'none'; script-src 'sha256-C6z06lFca7JxAuuUGwyyUnokH0TLmwgPKjSvpSCJgAk='; style-src 'sha256-9sHKMZsOPnXi1AK+WOWPLKz8U20IZv3eLszPMndEAE0='; img-src data: blob:; connect-src 'self'; base-uri 'none'; form-action 'none'; frame-ancestors 'none'";
 
 /// Appends the page, a text that a browser shows. If out of memory, some of the body may be gone.
 pub fn put_page(body: &mut Rope) -> Result<(), AllocError>
@@ -1104,8 +1104,10 @@ function stored(store, key, otherwise) { try { return JSON.parse(window[store].g
 function keepStored(store, key, value) { try { window[store].setItem("srm " + key, JSON.stringify(value)); } catch (e) { } }
 const TAB = "sessionStorage", ALL = "localStorage";
 // Four signs begin each step of this tab. A copy of a tab that is still open gets others.
-const tab = stored(TAB, "closed", false) && stored(TAB, "tab", null) || Math.random().toString(36).slice(2, 6).padEnd(4, "0");
-keepStored(TAB, "tab", tab); keepStored(TAB, "closed", false);
+const wasClosed = stored(TAB, "closed", false), tab = wasClosed && stored(TAB, "tab", null) || Math.random().toString(36).slice(2, 6).padEnd(4, "0");
+// By this number the member knows what this tab drew, also after a reload.
+const tabNumber = wasClosed && stored(TAB, "number", null) || String(crypto.getRandomValues(new BigUint64Array(1))[0]);
+keepStored(TAB, "tab", tab); keepStored(TAB, "number", tabNumber); keepStored(TAB, "closed", false);
 addEventListener("pagehide", () => keepStored(TAB, "closed", true));
 addEventListener("pageshow", () => keepStored(TAB, "closed", false));
 let steps = stored(TAB, "steps", 0);
@@ -1249,12 +1251,12 @@ function paintBase(p) {
 // The last whole picture, moved to where the view is now.
 function moveOld() {
   if (kept.isWhole) { [keep, old] = [old, keep]; oldView = { page: kept.page, scale: kept.scale, corner: kept.corner }; kept.isWhole = false; }
-  const c = base.getContext("2d"), by = scale / oldView.scale;
-  c.setTransform(1, 0, 0, 1, 0, 0); c.clearRect(0, 0, base.width, base.height);
-  if (oldView.page === kept.page) c.drawImage(old, (corner[0] - oldView.corner[0] * by) * ratio, (corner[1] - oldView.corner[1] * by) * ratio, old.width * by, old.height * by);
-}"##;
+  const c = base.getContext("2d"), by = scale / oldView.scale;"##;
 
 const PART_3: &str = r##"
+  c.setTransform(1, 0, 0, 1, 0, 0); c.clearRect(0, 0, base.width, base.height);
+  if (oldView.page === kept.page) c.drawImage(old, (corner[0] - oldView.corner[0] * by) * ratio, (corner[1] - oldView.corner[1] * by) * ratio, old.width * by, old.height * by);
+}
 // Paints all anew; `members` are those to whom that is due, if it isn't due to the view.
 function beginAll(p, isShown, members = []) {
   kept = { page: p, view: viewNow(), mark: kept.mark + 1, isWhole: false, scale, corner };
@@ -1783,41 +1785,87 @@ function tidyUp() {
   for (const p of pages.values()) { p.tidy(TIDIED_AT_ONCE); if (p.loose.size) { tidyTimer = setTimeout(tidyUp, 40); return; } }
 }
 
-// How the window and the member speak: the window asks again as soon as it was answered, and the member answers once it has something to tell.
-const APART = 12;       // it asks no more often than each so many ms: what comes quickly comes in one answer
-const PATIENCE = 4000;  // an answer takes half a second at most, but for a long one of a slow machine: so each time that none came it waits twice as long
+// How the window and the member speak: by a WebSocket, by which the member tells what is new, and takes what is drawn here. The window numbers what it draws, and the
+// member knows it by its own number, so that nothing is drawn twice or left out where the connection is renewed.
+const PATIENCE = 4000;  // the member says something each half second: so long after the last word it is given up, and twice as long each time that none came
 const LONGEST_WAIT = 60000;
-async function ask() {
-  const answer = await fetch(`told?from=${from}&seen=${happened}`, { headers: MARK, cache: "no-store", signal: AbortSignal.timeout(Math.min(LONGEST_WAIT, PATIENCE * 2 ** failed)) });
-  if (answer.status === 404) { veil("The member was started anew, and its page has another address: its terminal names it"); failed++; showState(); await pause(3000); return; }
-  if (!answer.ok) throw new Error(answer.status);
-  const told = await answer.json();
-  answeredAt = Date.now(); failed = 0;
-  // What goes wrong in here is the page's own fault: it is no reason to ask again.
-  try { if (run !== null && told.run !== run) reset(); else apply(told); } catch (e) { console.error(e.stack); }
-}
+let line = null, hangUp = () => { }, asking = null, isGreeted = false, patienceTimer = 0;
+// A window that isn't seen isn't told, unless something that was drawn here is on its way.
+const isIdle = () => document.hidden && !queue.length && !asking;
+const isSeen = () => new Promise(done => document.addEventListener("visibilitychange", done, { once: true }));
 async function listen() {
-  for (let askedAt = 0; !isOver;) {
-    const early = askedAt + APART - performance.now();
-    if (early > 0) await pause(early);
-    if (document.hidden) { await new Promise(done => document.addEventListener("visibilitychange", done, { once: true })); answeredAt = Date.now(); }
-    askedAt = performance.now();
-    try { await ask(); } catch (e) {
-      // A member that was told to leave may be gone before it says so to this window: then nothing listens there any more.
-      if (isLeaving && e instanceof TypeError) { end(); break; }
-      failed++; watch(); await pause(Math.min(2000, 200 * failed));
-    }
+  while (!isOver) {
+    if (isIdle()) { await isSeen(); answeredAt = Date.now(); continue; }
+    await hold();
+    if (isOver || isIdle()) continue;
+    failed++; watch();
+    if (failed > 1 || isLeaving) await explain();
+    await pause(Math.min(2000, 200 * failed));
+  }
+}
+// Opens a WebSocket, and resolves once it is closed.
+function hold() {
+  return new Promise(done => {
+    const address = new URL(`live?from=${from}&seen=${happened}&tab=${tabNumber}`, location.href);
+    address.protocol = address.protocol.replace("http", "ws");
+    const it = line = new WebSocket(address);
+    hangUp = () => {
+      if (line !== it) return;
+      line = null; isGreeted = false; clearTimeout(patienceTimer); it.close();
+      if (asking) asking.fail(new Error("cut off"));
+      asking = null; done();
+    };
+    it.onmessage = event => { if (line === it) hear(JSON.parse(event.data)); };
+    it.onclose = it.onerror = () => { if (line === it) hangUp(); };
+    bePatient();
+  });
+}
+function bePatient() {
+  clearTimeout(patienceTimer);
+  patienceTimer = setTimeout(() => hangUp(), Math.min(LONGEST_WAIT, PATIENCE * 2 ** failed));
+}
+document.addEventListener("visibilitychange", () => { if (line && isIdle()) hangUp(); });
+function hear(told) {
+  answeredAt = Date.now();
+  if (failed) { failed = 0; veil(""); }
+  bePatient();
+  // What goes wrong in here is the page's own fault: it is no reason to ask again.
+  try { if ("took" in told) hearTook(told); else apply(told); } catch (e) { console.error(e.stack); }
+  if (isIdle()) hangUp();
+}
+// What the member says first, and then of each text that was drawn: up to which number all is settled.
+function hearTook(told) {
+  if (told.run !== undefined) {
+    if (run !== null && told.run !== run) { reset(); settled = 0; hangUp(); return; }
+    if (run === null) recall(told.run, told.took);
+    isGreeted = true;
+  }
+  if (told.end === "ahead") { hangUp(); return; }
+  if (told.end === "bad") refuse(queue[told.took - settled - 1], "the member takes no such line");
+  settleTo(told.took);
+  if (told.end === "over") { toast("Not drawn: the member has left"); for (const key of queue.splice(0)) awaited.delete(key); pending.clear(); refresh(); }
+  if (asking && told.run === undefined) { asking.done(); asking = null; }
+  pump();
+}
+// A WebSocket doesn't say why it can't be opened.
+async function explain() {
+  try {
+    const answer = await fetch(`told?from=${from}&seen=${happened}`, { headers: MARK, cache: "no-store", signal: AbortSignal.timeout(PATIENCE) });
+    if (answer.status === 404) veil("The member was started anew, and its page has another address: its terminal names it");
+  } catch (e) {
+    // A member that was told to leave may be gone before it says so to this window: then nothing listens there any more.
+    if (isLeaving && e instanceof TypeError) end();
   }
 }
 
-const POSTED = 60000, LITTLE = 4000;    // bodies go to the member in batches of so many bytes at most; while it is full, of fewer
-// Hands lines to the member. Returns how many aren't to be sent again; what a server says that isn't the member's is a failure.
-async function post(lines) {
-  const answer = await fetch("draw", { method: "POST", headers: { ...MARK, "content-type": "text/plain" }, body: lines.join("\n") });
-  if (answer.status === 410) { toast("Not drawn: the member has left"); for (const key of queue.splice(0)) awaited.delete(key); pending.clear(); refresh(); return 0; }
-  if (!answer.ok && answer.status !== 400) throw new Error(answer.status);
-  const taken = Number(await answer.text()) || 0;
-  return answer.status === 400 ? taken + 1 : taken;     // what is no stroke to the member isn't sent again
+const POSTED = 60000, LITTLE = 4000;    // bodies go to the member in texts of so many bytes at most; while it is full, of fewer
+// Hands lines to the member, the first under the next number. Resolves once the member says how many are settled, and fails where the connection ends before.
+function post(lines) {
+  return new Promise((done, fail) => {
+    if (!line || !isGreeted) { fail(new Error("cut off")); return; }
+    asking = { done, fail };
+    line.send([settled + 1, ...lines].join("\n"));
+  });
 }
 let isLeaving = false;  // the member was told so by this window
 async function sayLeave() {
@@ -1831,18 +1879,20 @@ async function sayLeave() {
 const WHY = { 1: "the member is leaving", 2: "the member has left", 3: "all eight pages are taken", 4: "you have drawn as much on this page as a page holds: begin a new page", 5: "the stroke is too long", 6: "memory ran out" };
 // The member was started anew, at the same address: what the earlier run didn't take is drawn by this one.
 function reset() {
-  unsent.push(...queue);
+  unsent.push(...queue.map(line => ({ line, isNumbered: false, isBack: false })));
+  for (const one of unsent) one.isNumbered = false;
   from = happened = 0; run = null; pages = new Map(); slots = []; holes = []; reaches = []; asked = new Map(); mended = new Map(); left = new Set(); present = new Set(); heard = []; heardAt = []; quietSince = Date.now(); known = 0;
   kept.page = null; last = null; opening = null; pending.clear(); awaited.clear(); queue.length = 0; pasts.clear(); chosen.clear(); inbox.clear(); accounts.clear(); refresh();
 }
 // The session has ended for this member.
 function end() {
-  if (isOver) return;
+  if (isOver) return;"##;
+
+const PART_4: &str = r##"
   isOver = true; veil("You have left the session. The drawing stays here until you close it."); showTools(); refresh();
   if (last) showPanels(); else showState();
 }
 function begin(told) {
-  recall(told);
   run = told.run; me = told.me; members = told.members; called = told.names || []; quietSince = Date.now(); isLoading = true; beganAt = performance.now();
   $("session").textContent = `session ${told.session}`;
   document.title = `Ringyew ${told.session}: ${called[me] || `member ${me}`}`;
@@ -1872,9 +1922,7 @@ function giveWay(name) {
   if (here === name) { here = p.name; keepStored(TAB, "here", here); if (shaping) shaping.page = here; if (writing) writing.page = here; }
 }
 function takeHappening([word, ...what]) {
-  if (word === "refused") { takeRefusal(...what); return; }"##;
-
-const PART_4: &str = r##"
+  if (word === "refused") { takeRefusal(...what); return; }
   const key = keyOf(what[0], what[1], what[2]), name = `${what[2]} of ${nameOf(what[0])}`;
   if (word === "miss") news("missing ", name);
   else if (word === "ask") { asked.set(key, (asked.get(key) || 0) + 1); forgetOld(asked); news("asked for ", name); }
@@ -1997,7 +2045,8 @@ function serve(member, end) {
 // What is drawn here, on its way to the member.
 const pending = new Set();      // what was drawn here and hasn't come back whole
 const awaited = new Map();      // of each page and body the strokes that await it
-const queue = [];               // bodies to send, in order, each with its page
+const queue = [];               // bodies to send, in order, each with its page. The first has the number behind `settled`
+let settled = 0;                // up to this number all that this tab drew is settled: the member took it, or said that it didn't
 let most = POSTED, isPumping = false;
 // Of each page what this tab did, and what other tabs of this member did, by the four signs that begin their steps.
 const pasts = new Map();
@@ -2044,47 +2093,74 @@ function batch() {
   }
   return lines;
 }
-// Whether a request that failed was heard isn't known: what it drew comes back, and isn't sent again.
-async function afterFailure() {
-  do await pause(500); while (failed && !isOver);
-  while (queue.length && !awaited.has(queue[0])) queue.shift();
+// The member says up to which number all is settled. A number that it doesn't know any more begins anew: what was on its way then may be drawn or not.
+function settleTo(number) {
+  let count = number - settled;
+  settled = number;
+  if (count < 0) {
+    for (const line of queue.splice(0, onWay)) refuse(line, "it may be there all the same, since the member doesn't know this window any more");
+    for (const one of unsent) one.isNumbered = false;
+  }
+  onWay = 0;
+  while (count > 0 && unsent.length && unsent[0].isNumbered) { unsent.shift(); count--; }
+  if (count > 0) queue.splice(0, count);
 }
+function refuse(line, why) { if (line !== undefined) { settle(...partsOf(line)); toast("Not drawn: " + why); } }
+const partsOf = key => { const at = key.indexOf(" "); return [key.slice(0, at), key.slice(at + 1)]; };
+let onWay = 0;          // so many of the queue were sent and not answered
 async function pump() {
-  if (isPumping) return;
+  if (isPumping || isLoading) return;
   isPumping = true;
   try {
     for (;;) {
       if (!queue.length) cutNow();
       if (!queue.length || isOver) break;
-      const lines = batch();
-      let taken = 0;
-      try { taken = await post(lines); } catch (e) { await afterFailure(); }
-      queue.splice(0, taken);
+      const lines = batch(), before = settled;
+      onWay = lines.length;
+      // Where the connection ends before an answer, the next one begins with what is settled.
+      try { await post(lines); } catch (e) { while (!isGreeted && !isOver) await pause(50); }
+      const taken = settled - before;
       // What a full member has no place for isn't sent again and again.
       most = taken < lines.length ? Math.max(LITTLE, most / 2) : Math.min(POSTED, most * 2);
-      if (!taken) await pause(10);
+      if (taken <= 0) await pause(10);
     }
   } finally { isPumping = false; }
 }
 
-// What the member didn't take before a reload is kept, and sent behind it, but for what the member's list has already.
-const SETTLED = 700;    // so long after loading a request that was on its way then has come back
+// What the member didn't take before a reload is kept with its numbers, and sent behind it under the same. What an earlier run of the member didn't take has none: it is sent
+// but for what the member's list has already.
+const SETTLED = 700;    // so long after loading what was on its way then has come back
 const unsent = [];
-addEventListener("pagehide", () => keepStored(TAB, "unsent", { run, lines: isOver ? [] : [...unsent, ...queue] }));
-function resumed(name, latin) { const at = unsent.length ? unsent.indexOf(`${name} ${textOf(latin)}`) : -1; if (at >= 0) unsent.splice(at, 1); }
-function recall(told) {
-  const kept = stored(TAB, "unsent", null);
-  keepStored(TAB, "unsent", null);
-  if (kept && kept.run === told.run) unsent.push(...kept.lines);
+// What the window before left, until the member says in which run it is.
+let inherited = stored(TAB, "unsent", null);
+keepStored(TAB, "unsent", null);
+const ownLines = () => [...unsent.filter(one => one.isNumbered).map(one => one.line), ...queue, ...unsent.filter(one => !one.isNumbered).map(one => one.line)];
+addEventListener("pagehide", () => keepStored(TAB, "unsent", isOver ? null : inherited ? { ...inherited, lines: [...inherited.lines, ...ownLines()] } : { run, settled, lines: ownLines() }));
+function resumed(name, latin) {
+  const line = `${name} ${textOf(latin)}`, one = unsent.find(one => !one.isBack && one.line === line);
+  if (one) one.isBack = true;
+}
+// What was left in an earlier run is gone; what was drawn before any was known is of this one.
+function recall(now, number) {
+  const left = inherited;
+  inherited = null;
+  if (!left || left.run !== null && left.run !== now) return;
+  settled = left.run === null ? number : left.settled;
+  unsent.push(...left.lines.map(line => ({ line, isNumbered: true, isBack: false })));
 }
 function resume() {
-  if (unsent.length) setTimeout(() => {
-    for (const line of unsent.splice(0)) {
-      const [name, ...rest] = line.split(" "), body = rest.join(" "), stroke = strokeIn(body) || {};
-      if (!pages.has(name)) pages.set(name, madePage(name, null));
-      give(stroke.kind === "more" || stroke.spans ? { kind: stroke.kind, id: stroke.id, shapes: [], looks: [] } : stroke, name, [body]);
-    }
-  }, SETTLED);
+  const behind = queue.splice(0);
+  // What came back already is sent again under its number, which the member knows.
+  for (const one of unsent.filter(one => one.isNumbered)) { if (one.isBack) queue.push(one.line); else giveAgain(one.line); }
+  queue.push(...behind);
+  unsent.splice(0, unsent.length, ...unsent.filter(one => !one.isNumbered));
+  if (unsent.length) setTimeout(() => { for (const one of unsent.splice(0)) if (!one.isBack) giveAgain(one.line); }, SETTLED);
+  pump();
+}
+function giveAgain(line) {
+  const [name, body] = partsOf(line), stroke = strokeIn(body) || {};
+  if (!pages.has(name)) pages.set(name, madePage(name, null));
+  give(stroke.kind === "more" || stroke.spans ? { kind: stroke.kind, id: stroke.id, shapes: [], looks: [] } : stroke, name, [body]);
 }
 addEventListener("beforeunload", e => { endWords(); if (shaping) lift(); if (unsentAt(Date.now()) && !isOver) e.preventDefault(); });
 
@@ -2492,7 +2568,9 @@ function editText(done, text) {
   if (shape.isHidden) { if (text) writeText({ ...stroke("text", boundsOf(shape).slice(0, 2).map(Math.round)), ...saidBy(shape) }, text); return; }
   const [head, ...rest] = pieces(text), id = newStep();
   if (!head) { erase([shape]); return; }
-  const look = { ...shape, text: head, lines: null, lies: null }, box = boxOf(look);
+  const look = { ...shape, text: head, lines: null, lies: null }, box = boxOf(look);"##;
+
+const PART_5: &str = r##"
   const below = columnOf({ ...saidBy(shape), kind: "text", id, source: me, points: [[Math.round(box[0]), Math.min(HIGH, Math.round(box[3]))]] }, rest).map((one, i) => ({ ...one, height: Math.min(GREATEST_HEIGHT, nextHeight() + i) }));
   give({ kind: "place", id, shapes: [shape], looks: [look, ...below] }, here, [bodyOf(editOf(shape, id, { text: head })), ...below.map(bodyOf)]);
 }
@@ -2546,9 +2624,7 @@ const CHORDS = {
   z: e => e.shiftKey ? redo() : undo(), y: () => redo(), s: () => saveFile(), o: () => $("file").click(),
   a: () => { setTool("choose"); choose(page() ? page().shapes() : []); paper.focus(); }, c: () => copyChosen(), x: () => { if (copyChosen()) erase(alive()); }, v: () => paste(clip, [60, 60]), d: () => double() };
 function thicker(step) { const all = Object.keys(WIDTHS).map(Number).sort((a, b) => a - b); setWidth(all[Math.max(0, Math.min(all.length - 1, all.indexOf(width) + step))]); }
-// What a key stands for in a table. Letters count by their place on the keyboard, whatever Caps Lock or the layout make of them, and where that place has no meaning by"##;
-
-const PART_5: &str = r##"
+// What a key stands for in a table. Letters count by their place on the keyboard, whatever Caps Lock or the layout make of them, and where that place has no meaning by
 // what they write; signs by what they write, and else by their place. Redo by Y counts by what it writes, since layouts exchange it with Z.
 const SIGNS = { BracketLeft: "[", BracketRight: "]", Equal: "=", Minus: "-", Comma: ",", Period: ".", Slash: "?" };
 function meaningOf(e, table) {

@@ -2,6 +2,7 @@
 
 ghost use Rattle.std.specs.Prelude.{◌≡◌, ◌-◌, [], ◌∷◌, ◌++◌, ◌&&◌, ◌==◌, nat_le, not, length, take, drop, slice_index, true, false, IfOk, OnOk, OnErr};
 ghost use Rattle.srm_slate.specs.Happenings.{newest};
+ghost use Rattle.srm_slate.specs.Showing.{ShowsFront, ShowsOneMore};
 ghost use Rattle.srm_slate.specs.Slates.{blank, happened, gained, heard_from, is_hole, told_from, with_missing, Shows, StaysPrefix, KeepsPrefix};
 
 use crate::happening::Happening;
@@ -14,7 +15,7 @@ use std::alloc::{AllocError, Global};
 use std::marker::Model;
 
 /// The messages that are told at once, at most.
-pub const TOLD: usize = 1_000;
+pub const TOLD: usize = 100;
 
 /// What there is to show so far.
 #[derive(Drop)]
@@ -43,8 +44,10 @@ impl Model for Record {
 
 impl Record {
     /// Makes a record of nothing. Takes no memory.
+    #[tactic(auto, using(crate::proofs::Showing::front_of_none))]
     pub fn new(alloc: Global) -> Record
-        ensures { result ≡ blank }
+        ensures blank { result ≡ blank }
+        ensures front { ShowsFront result [] }
     {
         Record {
             alloc,
@@ -61,9 +64,20 @@ impl Record {
     }
 
     /// Adds a message that the worker of a page slot, 0 to 7, took. Fails only if out of memory, and from then on always: no later message is kept, so that what is
-    /// shown stays a prefix of what was taken.
-    #[tactic(auto, using(crate::proofs::Prefixes::stays_behind, crate::proofs::Prefixes::stays_equal))]
+    /// shown stays a prefix of what was taken. Whatever list of messages it showed a front of, all of them if it isn't lossy, it shows one of that list with this message behind it.
     pub fn take(&mut self, slot: u8, message: &PageMsg) -> Result<(), AllocError>
+        ensures ok { OnOk result (self.new ≡ record self.old { taken = self.old.taken ++ (record { slot = slot; message = message.now }) ∷ [] }) }
+        ensures whole { OnOk result (self.old.is_lossy ≡ false) }
+        ensures err { OnErr result (self.new ≡ record self.old { is_lossy = true }) }
+        ensures stays { StaysPrefix self.old.taken self.new.taken }
+        ensures front { ShowsOneMore (record { slot = slot; message = message.now }) self.old self.new }
+    {
+        self.keep(slot, message)
+    }
+
+    // Keeps a message, if it kept all before.
+    #[tactic(auto, using(crate::proofs::Prefixes::stays_behind, crate::proofs::Prefixes::stays_equal))]
+    fn keep(&mut self, slot: u8, message: &PageMsg) -> Result<(), AllocError>
         ensures ok { OnOk result (self.new ≡ record self.old { taken = self.old.taken ++ (record { slot = slot; message = message.now }) ∷ [] }) }
         ensures whole { OnOk result (self.old.is_lossy ≡ false) }
         ensures err { OnErr result (self.new ≡ record self.old { is_lossy = true }) }
@@ -79,7 +93,7 @@ impl Record {
         Ok(())
     }
 
-    /// Returns what is new to a tab that was told the first `from` messages and saw the first `seen` happenings: the next 1,000 messages, and the later happenings
+    /// Returns what is new to a tab that was told the first `from` messages and saw the first `seen` happenings: the next 100 messages, and the later happenings
     /// as far as they are kept. Fails only if out of memory. A tab that puts these messages behind those that it has, and asks from there, has a prefix of what was
     /// taken.
     #[tactic(auto, using(crate::proofs::Prefixes::keeps_prefix))]

@@ -1,35 +1,29 @@
-//! What the server answers.
+//! What the server answers over HTTP, at once.
 
-use crate::asked::asked_by;
-use crate::asking::{seen_in, stroke_in};
+ghost use Rattle.std.specs.Prelude.{◌≡◌, OnErr};
+
+use crate::asked::{asked_by, header};
+use crate::asking::{seen_in, tab_in};
+use crate::cursor::Cursor;
 use crate::door::Face;
-use crate::easel::{Drawn, Easel};
+use crate::easel::Easel;
 use crate::guard::{Judged, Wish};
+use crate::hand::Hand;
 use crate::page::{POLICY, put_page};
 use crate::slate::Slate;
+use crate::strokes::{End, Strokes};
 use crate::telling::text_of;
 use bytes::{BufMut, Bytes};
 use http::header::{
-    CACHE_CONTROL, CONTENT_SECURITY_POLICY, CONTENT_TYPE, REFERRER_POLICY, X_CONTENT_TYPE_OPTIONS,
-    X_FRAME_OPTIONS,
+    CACHE_CONTROL, CONNECTION, CONTENT_SECURITY_POLICY, CONTENT_TYPE, REFERRER_POLICY, UPGRADE,
+    X_CONTENT_TYPE_OPTIONS, X_FRAME_OPTIONS,
 };
 use http::{HeaderName, HeaderValue, Request, StatusCode};
 use http_server::{Response, Service};
-use srm_names::Page;
 use std::alloc::{AllocError, Global};
 use std::sync::{Arc, Wait};
-use std::thread;
-use std::time::{Clock, Duration};
-
-/// How long a page that is up to date waits for what is new, in milliseconds. The counts are so old, at most.
-const WAIT: u64 = 500;
-
-/// How long to wait before a stroke that the member has no place for yet is tried again, in milliseconds. A member sends the 64 strokes that wait in no less at a
-/// million bytes a second.
-const NAP: u64 = 4;
-
-/// How often in a request: for a quarter of a second.
-const NAPS: u8 = 62;
+use std::time::Clock;
+use websocket::handshake::server::accept_key;
 
 /// A member as its browsers see it.
 #[derive(Drop)]
@@ -44,7 +38,16 @@ pub struct Shown<K: Easel + Drop> {
     pub easel: K,
 }
 
-/// Answers the requests of one connection.
+/// What a tab says of itself that opens a WebSocket.
+#[derive(Clone, Copy, Debug, PartialEq, Eq)]
+pub struct Opened {
+    /// How much it was told.
+    pub at: Cursor,
+    /// The number that it gave itself. Its strokes are known by it.
+    pub tab: u64,
+}
+
+/// Answers requests, and notes what became of them.
 #[derive(Drop)]
 pub struct Desk<R: Wait + Clock + Drop, K: Easel + Drop> {
     /// The runtime.
@@ -52,7 +55,15 @@ pub struct Desk<R: Wait + Clock + Drop, K: Easel + Drop> {
     /// The allocator for answers.
     pub alloc: Global,
     /// The member.
-    pub shown: Arc<Shown<K>, Global>,
+    pub shown: Shown<K>,
+    /// How many requests were answered.
+    pub answered: u64,
+    /// Whether one of them was granted.
+    pub has_granted: bool,
+    /// Whether there is room for one more tab.
+    pub has_room: bool,
+    /// What the tab says whose WebSocket was opened.
+    pub opened: Option<Opened>,
 }
 
 impl<R: Wait + Clock + Drop, K: Easel + Drop> Service for Desk<R, K> {
@@ -63,32 +74,36 @@ impl<R: Wait + Clock + Drop, K: Easel + Drop> Service for Desk<R, K> {
         request: &Request<Bytes>,
         response: &mut Response,
     ) -> Result<(), AllocError> {
-        self.answer(request, response)
-    }
-}
-
-impl<R: Wait + Clock + Drop, K: Easel + Drop> Desk<R, K> {
-    fn answer(&self, request: &Request<Bytes>, response: &mut Response) -> Result<(), AllocError> {
         put_guards(response)?;
-        match self.shown.face.guard.judge(&asked_by(request)) {
-            Judged::Granted(wish) => return self.grant(wish, request, response),
+        let judged = self.shown.face.guard.judge(&asked_by(request));
+        match judged {
+            Judged::Granted(wish) => self.grant(wish, request, response)?,
             Judged::Misdirected => response.status = StatusCode::MISDIRECTED_REQUEST,
             Judged::Unknown => response.status = StatusCode::NOT_FOUND,
             Judged::Foreign => response.status = StatusCode::FORBIDDEN,
         }
+        self.answered = self.answered.saturating_add(1);
+        if matches!(judged, Judged::Granted(_)) {
+            self.has_granted = true;
+        }
         Ok(())
     }
+}
 
+impl<R: Wait + Clock + Drop, K: Easel + Drop> Desk<R, K> {
     fn grant(
-        &self,
+        &mut self,
         wish: Wish,
         request: &Request<Bytes>,
         response: &mut Response,
-    ) -> Result<(), AllocError> {
+    ) -> Result<(), AllocError>
+        ensures { OnErr result (self.new ≡ self.old) }
+    {
         match wish {
             Wish::Page => show_page(response),
             Wish::Told => self.tell(request.uri().query().unwrap_or(""), response),
-            Wish::Draw => self.draw(request.body().as_slice(), response),
+            Wish::Live => self.open(request, response),
+            Wish::Draw => self.draw(request.body(), response),
             Wish::Leave => {
                 self.shown.easel.leave(&self.rt);
                 Ok(())
@@ -96,53 +111,82 @@ impl<R: Wait + Clock + Drop, K: Easel + Drop> Desk<R, K> {
         }
     }
 
-    // Tells what is new, as soon as there is something.
+    // Tells what is new.
     fn tell(&self, query: &str, response: &mut Response) -> Result<(), AllocError> {
-        let (from, seen) = seen_in(query);
-        let shown = &*self.shown;
-        let look = shown
-            .slate
-            .look(&self.rt, from, seen, Duration::from_millis(WAIT))?;
-        let text = text_of(self.alloc, &shown.face, shown.run, &look)?;
+        let at = seen_in(query);
+        let look = self.shown.slate.lock(&self.rt).look(at.from, at.seen)?;
+        let text = text_of(self.alloc, &self.shown.face, self.shown.run, &look)?;
         response.add_header(CONTENT_TYPE, HeaderValue::from_static("application/json"))?;
         response.body.put_slice(text.as_str().as_bytes())
     }
 
-    // Draws a stroke a line, until one isn't taken in time, and tells how many were. Nothing is drawn behind a line that is no stroke.
-    fn draw(&self, lines: &[u8], response: &mut Response) -> Result<(), AllocError> {
-        let mut taken = 0_u64;
-        let mut naps = NAPS;
-        for line in lines.split(|byte| *byte == b'\n') {
-            let Some((page, body)) = stroke_in(self.alloc, line)? else {
-                response.status = StatusCode::BAD_REQUEST;
-                break;
-            };
-            match self.draw_one(page, &body, &mut naps)? {
-                Drawn::Taken => taken = taken.saturating_add(1),
-                Drawn::Full => break,
-                Drawn::Over => {
-                    response.status = StatusCode::GONE;
-                    break;
-                }
-            }
+    // Lets a tab go on with a WebSocket.
+    fn open(&mut self, request: &Request<Bytes>, response: &mut Response) -> Result<(), AllocError>
+        ensures { OnErr result (self.new ≡ self.old) }
+    {
+        if !self.has_room {
+            response.status = StatusCode::SERVICE_UNAVAILABLE;
+            return Ok(());
         }
+        if !is_named(request, "upgrade", b"websocket")
+            || !is_named(request, "sec-websocket-version", b"13")
+        {
+            response.status = StatusCode::UPGRADE_REQUIRED;
+            return response.add_header(UPGRADE, HeaderValue::from_static("websocket"));
+        }
+        let query = request.uri().query().unwrap_or("");
+        let key = header(request, "sec-websocket-key").unwrap_or(b"");
+        let (Some(tab), Ok(accept)) = (tab_in(query), accept_key(key)) else {
+            response.status = StatusCode::BAD_REQUEST;
+            return Ok(());
+        };
+        put_upgrade(self.alloc, &accept, response)?;
+        self.opened = Some(Opened {
+            at: seen_in(query),
+            tab,
+        });
+        Ok(())
+    }
+
+    // Draws a stroke a line, until one isn't taken, and tells how many were. Nothing is drawn behind a line that is no stroke. Who asks so again draws again. Fails only if out
+    // of memory before anything is drawn.
+    fn draw(&mut self, lines: &Bytes, response: &mut Response) -> Result<(), AllocError>
+        ensures { OnErr result (self.new ≡ self.old) }
+    {
+        let strokes = Strokes::new(lines.clone()?, 1);
+        // Something may be drawn that can't be told.
+        if self.draw_all(strokes, response).is_err() {
+            response.status = StatusCode::INTERNAL_SERVER_ERROR;
+        }
+        Ok(())
+    }
+
+    fn draw_all(&mut self, strokes: Strokes, response: &mut Response) -> Result<(), AllocError> {
+        let mut strokes = strokes;
+        let mut hand = Hand::new();
+        match strokes.draw(&self.rt, self.alloc, &mut self.shown.easel, &mut hand)? {
+            End::Over => response.status = StatusCode::GONE,
+            End::Bad => response.status = StatusCode::BAD_REQUEST,
+            End::All | End::Full | End::Ahead => {}
+        }
+        let taken = strokes.taken();
         let text = format!(in self.alloc; "{taken}")?;
         response.add_header(CONTENT_TYPE, HeaderValue::from_static("text/plain"))?;
         response.body.put_slice(text.as_str().as_bytes())
     }
+}
 
-    // Draws a stroke, and tries again while the member has no place for it and there are naps left.
-    fn draw_one(&self, page: Page, body: &Bytes, naps: &mut u8) -> Result<Drawn, AllocError> {
-        for left in (0..*naps).rev() {
-            let drawn = self.shown.easel.draw(&self.rt, page, body.clone()?);
-            if drawn != Drawn::Full {
-                return Ok(drawn);
-            }
-            *naps = left;
-            thread::sleep(&self.rt, Duration::from_millis(NAP));
-        }
-        Ok(Drawn::Full)
-    }
+fn put_upgrade(alloc: Global, accept: &[u8], response: &mut Response) -> Result<(), AllocError> {
+    let accept = HeaderValue::from_bytes(alloc, accept).map_err(|_| AllocError)?;
+    response.status = StatusCode::SWITCHING_PROTOCOLS;
+    response.add_header(CONNECTION, HeaderValue::from_static("upgrade"))?;
+    response.add_header(UPGRADE, HeaderValue::from_static("websocket"))?;
+    response.add_header(HeaderName::from_static("sec-websocket-accept"), accept)
+}
+
+// Whether a header has this value, whatever the case.
+fn is_named(request: &Request<Bytes>, name: &str, value: &[u8]) -> bool {
+    header(request, name).is_some_and(|text| text.eq_ignore_ascii_case(value))
 }
 
 fn show_page(response: &mut Response) -> Result<(), AllocError> {
