@@ -8,7 +8,9 @@ use srm_arguments::{ArgumentFault, read_arguments, texts_of};
 use srm_board::run_board;
 use srm_live::{PolledInput, run_live};
 use srm_member::{print_reply, run_node};
-use srm_options::{WorldOptions, read_picture, read_room_command, read_world};
+use srm_options::{
+    BoardOptions, NodeOptions, WorldOptions, read_picture, read_room_command, read_world,
+};
 use srm_played::run_picture;
 use srm_rooms::{
     BoardLines, NodeLines, Unjoined, audit_options, board_options, node_options, run_room,
@@ -23,70 +25,93 @@ use std::rt::Files;
 
 fn main(rt: HostRuntime) -> ExitCode {
     fill_standard_streams(&rt);
-    let alloc = rt.alloc();
     let mut err = rt.stderr();
     let arguments = match read_arguments(&rt) {
         Ok(arguments) => arguments,
         Err(fault) => return ExitCode::from(fault.print(&mut err)),
     };
-    let Ok(texts) = texts_of(alloc, arguments.as_slice()) else {
+    let Ok(texts) = texts_of(rt.alloc(), arguments.as_slice()) else {
         return ExitCode::from(ArgumentFault::Memory.print(&mut err));
     };
-    let status = match texts.as_slice() {
-        ["node", arguments @ ..] => match node_options(
-            &rt,
-            alloc,
-            &NodeLines(rt),
-            arguments,
-            &mut err,
-        ) {
+    let mut out = writer(&rt);
+    ExitCode::from(match texts.as_slice() {
+        ["node", arguments @ ..] => match read_node_line(&rt, arguments, &mut err) {
             Ok(options) if options.live => {
-                let input = PolledInput::new(&rt, alloc, rt.stdin(), STDIN);
+                let input = PolledInput::new(&rt, rt.alloc(), rt.stdin(), STDIN);
                 run_live(&rt, options, input, rt.stdout(), rt.stderr())
             }
-            Ok(options) => run_node(&rt, options, &mut rt.stdin(), &mut writer(&rt), &mut err),
-            Err(unjoined) => print_unjoined(&unjoined, &mut writer(&rt), &mut err),
+            Ok(options) => run_node(&rt, options, &mut rt.stdin(), &mut out, &mut err),
+            Err(unjoined) => print_unjoined(&unjoined, &mut out, &mut err),
         },
-        ["board", arguments @ ..] => match board_options(
-            &rt,
-            alloc,
-            &BoardLines(rt),
-            arguments,
-            &mut err,
-        ) {
-            Ok(options) => run_board(
-                &rt,
-                options,
-                terminal_of(&rt, alloc, rt.stdin()),
-                rt.stderr(),
-            ),
-            Err(unjoined) => print_unjoined(&unjoined, &mut writer(&rt), &mut err),
-        },
-        ["room", arguments @ ..] => match read_room_command(alloc, arguments) {
-            Ok(command) => run_room(
-                &rt,
-                alloc,
-                &command,
-                &mut rt.stdin(),
-                &mut writer(&rt),
-                &mut err,
-            ),
-            Err(reply) => print_reply(&reply, &mut writer(&rt), &mut err),
-        },
-        ["picture", arguments @ ..] => match read_picture(alloc, arguments) {
-            Ok(()) => run_picture(alloc, &mut rt.stdin(), &mut writer(&rt), &mut err),
-            Err(reply) => print_reply(&reply, &mut writer(&rt), &mut err),
-        },
-        ["audit", arguments @ ..] => judge(&rt, arguments, &mut writer(&rt), &mut err),
-        arguments => match read_world(alloc, arguments) {
+        ["board", arguments @ ..] => match read_board_line(&rt, arguments, &mut err) {
             Ok(options) => {
-                let dialect = dialect_of(&options);
-                run_script_in(alloc, dialect, &mut rt.stdin(), &mut writer(&rt), &mut err)
+                let input = terminal_of(&rt, rt.alloc(), rt.stdin());
+                run_board(&rt, options, input, rt.stderr())
             }
-            Err(reply) => print_reply(&reply, &mut writer(&rt), &mut err),
+            Err(unjoined) => print_unjoined(&unjoined, &mut out, &mut err),
         },
-    };
-    ExitCode::from(status)
+        ["room", arguments @ ..] => keep_room(&rt, arguments, &mut out, &mut err),
+        ["picture", arguments @ ..] => draw_picture(&rt, arguments, &mut out, &mut err),
+        ["audit", arguments @ ..] => judge(&rt, arguments, &mut out, &mut err),
+        arguments => play(&rt, arguments, &mut out, &mut err),
+    })
+}
+
+/// Returns what a command line of `srm node` asks for.
+fn read_node_line<E: Write>(
+    rt: &HostRuntime,
+    arguments: &[&str],
+    err: &mut E,
+) -> Result<NodeOptions, Unjoined> {
+    node_options(rt, rt.alloc(), &NodeLines(*rt), arguments, err)
+}
+
+/// Returns what a command line of `srm board` asks for.
+fn read_board_line<E: Write>(
+    rt: &HostRuntime,
+    arguments: &[&str],
+    err: &mut E,
+) -> Result<BoardOptions, Unjoined> {
+    board_options(rt, rt.alloc(), &BoardLines(*rt), arguments, err)
+}
+
+/// Makes, shows or checks a room, as a command line of `srm room` says. The program's status.
+fn keep_room<'a, O: Write, E: Write>(
+    rt: &HostRuntime,
+    arguments: &'a [&'a str],
+    out: &mut O,
+    err: &mut E,
+) -> u8 {
+    match read_room_command(rt.alloc(), arguments) {
+        Ok(command) => run_room(rt, rt.alloc(), &command, &mut rt.stdin(), out, err),
+        Err(reply) => print_reply(&reply, out, err),
+    }
+}
+
+/// Draws the pages of a script. The program's status.
+fn draw_picture<'a, O: Write, E: Write>(
+    rt: &HostRuntime,
+    arguments: &'a [&'a str],
+    out: &mut O,
+    err: &mut E,
+) -> u8 {
+    match read_picture(rt.alloc(), arguments) {
+        Ok(()) => run_picture(rt.alloc(), &mut rt.stdin(), out, err),
+        Err(reply) => print_reply(&reply, out, err),
+    }
+}
+
+/// Plays a script. The program's status.
+fn play<'a, O: Write, E: Write>(
+    rt: &HostRuntime,
+    arguments: &'a [&'a str],
+    out: &mut O,
+    err: &mut E,
+) -> u8 {
+    match read_world(rt.alloc(), arguments) {
+        Ok(options) => run_script_in(rt.alloc(), dialect_of(&options), &mut rt.stdin(), out, err),
+        Err(reply) => print_reply(&reply, out, err),
+    }
 }
 
 /// Judges the records that a command line of `srm audit` names. The program's status.
