@@ -49,8 +49,8 @@ class Ended(NamedTuple):
 class Runner:
     """Runs commands, and keeps what runs, so that an interrupt ends it."""
 
-    def __init__(self):
-        self.lock, self.running, self.is_ended = threading.Lock(), {}, False
+    def __init__(self, again=False):
+        self.lock, self.running, self.is_ended, self.again = threading.Lock(), {}, False, again
 
     def run(self, name, words, seconds=None, **how):
         """Runs a command to its end."""
@@ -104,13 +104,21 @@ class Runner:
         return [Ran(name, passed, max(failed, int(ended.status != 0)), time.monotonic() - begun, told)], []
 
     def test(self, test):
+        """Runs a test, and once more where it fails, waits for clocks, and may be tried again."""
+        ran = self.run_once(test)
+        if ran.failed and self.again and test.waits():
+            second = self.run_once(test)
+            ran = second._replace(seconds=ran.seconds + second.seconds, told=f"{ran.told}test {test.path}: tried again\n{second.told}")
+        return [ran], []
+
+    def run_once(self, test):
         """Runs a test as rt runs it: in a new folder, and with no environment."""
         begun = time.monotonic()
         with tempfile.TemporaryDirectory(prefix="test-") as folder:
             ended = self.run(test.name, test.words, SECONDS, cwd=folder, env={})
         passed = ended.status == 0
         told = "" if passed else f"test {test.path} ... FAILED\n" + "".join(f"    {it}\n" for it in placed(ended.said + ended.complained, [test.name]).splitlines())
-        return [Ran(test.name, int(passed), int(not passed), time.monotonic() - begun, told)], []
+        return Ran(test.name, int(passed), int(not passed), time.monotonic() - begun, told)
 
 
 def name_of(path, names):
