@@ -100,9 +100,9 @@ class Member:
         return len(self.taken.get(source, ()))
 
 
-def start_into(folder, number, program, *words):
-    """Starts a member whose output and standard error go to the files NUMBER.out and NUMBER.err of a folder. Its process, to whose `stdin` one types."""
-    words = [program, "node", "--session", "7", "--me", str(number), *words]
+def start_into(folder, number, program, *words, before=()):
+    """Starts a member, with these words before its own, whose output and standard error go to the files NUMBER.out and NUMBER.err of a folder. Its process, to whose `stdin` one types."""
+    words = [*before, program, "node", "--session", "7", "--me", str(number), *words]
     with open(f"{folder}/{number}.out", "wb") as out, open(f"{folder}/{number}.err", "wb") as err:
         return subprocess.Popen(words, stdin=subprocess.PIPE, stdout=out, stderr=err)
 

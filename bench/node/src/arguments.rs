@@ -7,9 +7,10 @@ use std::path::PathBuf;
 
 /// How the program is called.
 pub const USAGE: &str = "\
-usage: srm-bench-node PROGRAM [PEERS] [--ticks SHIM] [--sessions N] [--runs N] [--seconds N] [--paces N,N..]
+usage: srm-bench-node PROGRAM [PEERS] [--before PROGRAM] [--ticks SHIM] [--sessions N] [--runs N] [--seconds N] [--paces N,N..]
 
 PROGRAM is the binary of srm, PEERS the folder of NORM's peers.
+  --before PROGRAM  an older binary: what a message costs is told of both, and nothing else
   --ticks SHIM    what is preloaded into members so that they count their ticks; if left out, these aren't told
   --sessions N    sessions of each size, and of strokes that are typed at once; 5 if left out
   --runs N        runs at each pace, in which losses are counted; 10 if left out
@@ -23,6 +24,8 @@ const STREAM: usize = 65_536;
 pub struct Arguments {
     pub program: PathBuf,
     pub peers: Option<PathBuf>,
+    /// An older program, if it is to be measured too.
+    pub before: Option<PathBuf>,
     /// How members count their ticks, if they can.
     pub counting: Option<Counting>,
     /// Sessions of each size, and of strokes that are typed at once.
@@ -40,6 +43,7 @@ pub fn read(words: impl IntoIterator<Item = OsString>) -> Result<Arguments, Stri
     let mut arguments = Arguments {
         program: PathBuf::new(),
         peers: None,
+        before: None,
         counting: None,
         sessions: 5,
         runs: 10,
@@ -72,6 +76,10 @@ impl Arguments {
                 shim: PathBuf::from(value),
                 folder: env::temp_dir(),
             });
+            return Ok(());
+        }
+        if name == "--before" {
+            self.before = Some(PathBuf::from(value));
             return Ok(());
         }
         let value = value.to_string_lossy();

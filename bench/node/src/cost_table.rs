@@ -6,7 +6,7 @@ use crate::costs::{self, Each};
 use crate::members::Session;
 
 /// Bytes of a stroke, and strokes of a session of such: an input of `srm node` has at most 1,000,000 bytes.
-const SIZES: [(usize, usize); 3] = [(64, 4_000), (200, 4_000), (1_000, 900)];
+pub const SIZES: [(usize, usize); 3] = [(64, 4_000), (200, 4_000), (1_000, 900)];
 
 /// So many bytes a datagram has beside its stroke.
 const HEAD: usize = 27;

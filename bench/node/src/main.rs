@@ -5,6 +5,7 @@
 mod addresses;
 mod arguments;
 mod bare;
+mod before_table;
 mod buffer;
 mod cost_table;
 mod costs;
@@ -52,6 +53,9 @@ fn main() -> ExitCode {
 
 fn print(arguments: &Arguments) -> Result<(), String> {
     println!("{}\n", buffer::line()?);
+    if let Some(before) = &arguments.before {
+        return before_table::print(arguments, before);
+    }
     cost_table::print(arguments)?;
     speed_table::print(arguments)?;
     tick_table::print(arguments)?;
