@@ -1,18 +1,21 @@
 -- What an agent answers of how it stands: sums of what is missing, what a member without a request timer misses, and what waits.
-use Rattle.std.proofs.Common.{◌≡◌, ℕ, ◌+◌, ◌*◌, ◌≤◌, ◌<◌, List, [], ◌∷◌, Bool, true, false, Option, refl, sym, ap, ◌∙◌, arith, length, get_or}
+use Rattle.std.proofs.Common.{◌≡◌, ℕ, zero, suc, ◌+◌, ◌*◌, ◌≤◌, ◌<◌, List, [], ◌∷◌, Bool, true, false, cond, not, ◌&&◌, nat_le, map, Option, None, refl, sym, ap, ◌∙◌, arith, length, get_or}
 use Rattle.std.specs.Prelude.{sum_by, take, is_some, IsNone}
 use Rattle.std.proofs.lemmas.Bool.{false≢true}
+use Rattle.std.proofs.lemmas.Bool.Decides.{nat_tests}
 use Rattle.std.proofs.lemmas.List.{take_all, length-map}
-use Rattle.std.proofs.lemmas.List.Sums.{sum_by-append, sum_by_more}
+use Rattle.std.proofs.lemmas.List.Sums.{sum_by-append, sum_by-cons, sum_by_more}
 use Rattle.srm_names.specs.declared.limits.TheConstants.{MEMBERS, DRAWOPS, PAGES}
 use Rattle.srm_names.specs.declared.page.Page.{Page}
+use Rattle.srm_names.specs.declared.stream.Stream.{Stream}
 use Rattle.srm_names.specs.FullName.{FullName}
 use Rattle.srm_names.specs.Histories.{count_up}
-use Rattle.srm_names.specs.Names.{stream_on}
+use Rattle.srm_names.specs.Names.{named, stream_on}
 use Rattle.srm_names.proofs.Snoc.{up_to_more}
+use Rattle.srm_store.specs.Held.{unheld}
 use Rattle.srm_entries.specs.declared.entry.Entry.{Entry}
 use Rattle.srm_entries.specs.Configs.{Config}
-use Rattle.srm_entries.specs.Entries.{is_missing, missing, slots}
+use Rattle.srm_entries.specs.Entries.{held, is_held, is_missing, known, missing, slots}
 use Rattle.srm_entries.specs.Timers.{last_ask, only_if}
 use Rattle.srm_entries.specs.Outstanding.{missing_of, missing_on}
 use Rattle.srm_entries.proofs.Responding.{each_missing_asked}
@@ -72,6 +75,37 @@ misses_in_all a pages n count are all few sofar = record {
 
 pub misses_nothing : {W : Type 0} (a : AgentContent W) (moment : Option ℕ) → NextRequest a moment → IsNone moment → MissesNothing a
 misses_nothing a moment next none = record { each = nothing_missing a moment next none }
+
+-- what exists and isn't missing is held
+not_unheld : (k last : ℕ) (h : Bool) → 1 ≤ k → k ≤ last → (nat_le 1 k && nat_le k last && not h) ≡ false → not h ≡ false
+not_unheld k last h low high e = grind (arith, nat_tests)
+
+none_unheld : (past : List Entry) (s : Stream) (from n : ℕ) → ((name : FullName) → is_missing past name ≡ false) → 1 ≤ from → from + n ≤ known past s + 1 → unheld (held past) (map (named s) (count_up from n)) ≡ []
+none_unheld past s from zero none low high = refl
+none_unheld past s from (suc n) none low high =
+    ap (λ b. cond b (named s from ∷ unheld (held past) (map (named s) (count_up (from + 1) n))) (unheld (held past) (map (named s) (count_up (from + 1) n))))
+    (not_unheld from (known past s) (is_held past (named s from)) low (omega (arith, high)) (none (named s from)))
+    ∙ none_unheld past s (from + 1) n none (omega arith) (omega (arith, high))
+
+none_of_stream : (past : List Entry) → ((name : FullName) → is_missing past name ≡ false) → (s : Stream) → missing past s ≡ []
+none_of_stream past none s = none_unheld past s 1 (known past s) none (omega arith) (omega arith)
+
+sum_of_zeros : {X : Type 0} (f : X → ℕ) (xs : List X) → ((x : X) → f x ≡ 0) → sum_by f xs ≡ 0
+sum_of_zeros f [] zeros = refl
+sum_of_zeros f (x ∷ xs) zeros =
+    let one = zeros x in
+    let rest = sum_of_zeros f xs zeros in
+    sum_by-cons f x xs ∙ omega (arith, one, rest)
+
+-- so then 0 names are missing in all
+pub misses_zero : {W : Type 0} (a : AgentContent W) (moment : Option ℕ) → moment ≡ None → (IsNone moment → MissesNothing a) → MissesInAll a 0
+misses_zero a moment e nothing = record {
+  is = λ c made past fits.
+      let none = (nothing (ap is_some e)).each c made past fits in
+      sym (sum_of_zeros (missing_on past) (slots past) (λ page.
+      sum_of_zeros (missing_of past page) (count_up 0 MEMBERS) (λ source. ap length (none_of_stream past none (stream_on source page)))));
+  few = omega arith;
+}
 
 -- what waits in the bucket is what waits by the entries
 pub they_wait : {W : Type 0} (c : Config) (made : ℕ) (past : List Entry) (a : AgentContent W) (class : Class) (count : ℕ) (h : AgentFits c made past a) → count ≡ length (queued h.bucket.calls class) → AreWaiting c past class count

@@ -1,7 +1,7 @@
 //! The first names that a member misses, asked of it.
 
 use srm_agent::Agent;
-use srm_names::{MEMBERS, Member, Name, Stream};
+use srm_names::{Member, Name, Stream};
 use srm_slate::{Hole, NAMED};
 use srm_timers::Words;
 use std::alloc::Global;
@@ -10,11 +10,20 @@ use std::alloc::Global;
 const LOOKED: u32 = 64;
 
 /// Returns the first 64 names that a member misses, by page slot, source and number, each with how far its stream came: the greatest number that the member holds of the last 64
-/// that it knows of there, or else how many it has in front of the first gap. If out of memory, there are fewer names.
-pub fn first_missing<W: Words + Drop>(alloc: Global, agent: &Agent<W>) -> Vec<Hole> {
+/// that it knows of there, or else how many it has in front of the first gap. `members` is how many members its session has, and `missing` how many names it misses: if none, no
+/// stream is looked at. If out of memory, there are fewer names.
+pub fn first_missing<W: Words + Drop>(
+    alloc: Global,
+    agent: &Agent<W>,
+    members: u8,
+    missing: u32,
+) -> Vec<Hole> {
     let mut holes = Vec::new(alloc);
+    if missing == 0 {
+        return holes;
+    }
     for page in agent.pages() {
-        for number in 0..MEMBERS {
+        for number in 0..members {
             if let Some(source) = Member::new(number) {
                 let stream = Stream {
                     source,

@@ -86,9 +86,10 @@ impl<R: Wait + Drop> Past<Entry> for Watching<R> {
 
     fn turned<W: Words + Drop>(&mut self, agent: &Agent<W>, counts: &WireCounts) {
         if let Some(watch) = &mut self.watch {
-            watch.need.show(&agent.outstanding());
+            let outstanding = agent.outstanding();
+            watch.need.show(&outstanding);
             watch.show_wire(counts);
-            watch.ask(agent);
+            watch.ask(agent, outstanding.missing);
             watch.tell();
         }
     }
@@ -163,11 +164,11 @@ impl<R: Wait + Drop> Watch<R> {
         self.is_stale = self.is_stale || entry.accepted().is_some();
     }
 
-    // Shows what the member answers that it misses, if that may have changed, and whether others know of strokes that it drew in an earlier run.
-    fn ask<W: Words + Drop>(&mut self, agent: &Agent<W>) {
+    // Shows what the member answers that it misses, so many names, if that may have changed, and whether others know of strokes that it drew in an earlier run.
+    fn ask<W: Words + Drop>(&mut self, agent: &Agent<W>, missing: u32) {
         if self.is_stale {
             self.is_stale = false;
-            let holes = first_missing(self.alloc, agent);
+            let holes = first_missing(self.alloc, agent, self.members, missing);
             let mut shown = self.slate.lock(&self.rt);
             show_missing(&mut shown, agent, holes);
         }

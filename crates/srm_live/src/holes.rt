@@ -5,12 +5,14 @@ use srm_agent::Agent;
 use srm_names::{MEMBERS, Member, PAGES, Page, Stream};
 use srm_timers::Words;
 use std::alloc::{AllocError, Global};
-use std::sync::atomic::{AtomicU64, AtomicUsize, Ordering};
+use std::sync::atomic::{AtomicBool, AtomicU64, AtomicUsize, Ordering};
 
 /// How many drawops of each stream a member misses, by its page slots. One thread asks the member, and any reads.
 #[derive(Drop)]
 pub struct Holes {
     pages: Vec<PageHoles>,
+    // Whether a drawop was missing when the member was asked last. If not, all counts are 0.
+    has_counts: AtomicBool,
 }
 
 /// How many drawops of each source a member misses on a page.
@@ -29,7 +31,10 @@ impl Holes {
         for _ in 0..PAGES {
             pages.push(PageHoles::new(alloc)?)?;
         }
-        Ok(Holes { pages })
+        Ok(Holes {
+            pages,
+            has_counts: AtomicBool::new(false),
+        })
     }
 
     /// Returns the page slots; one without strokes, as far as the member knows, has no page here.
@@ -46,13 +51,22 @@ impl Holes {
         all
     }
 
-    /// Stores what a member answers: which of its pages have strokes, and how many drawops it misses there, by source. Looks at 512 numbers at most.
-    pub fn ask<W: Words + Drop>(&self, agent: &Agent<W>) {
+    /// Stores what a member answers: which of its pages have strokes, and how many drawops it misses there, by source. `members` is how many members its session has, and `missing` how
+    /// many drawops it misses in all. Looks for strokes on the pages that had none, and if something is missing at 256 counts at most.
+    pub fn ask<W: Words + Drop>(&self, agent: &Agent<W>, members: u8, missing: u32) {
+        let is_missing = missing > 0;
+        let had_counts = self.has_counts.load(Ordering::SeqCst);
         for (slot, page) in agent.pages().iter().enumerate() {
             if let Some(holes) = self.pages.get(slot) {
-                holes.ask(agent, page);
+                holes.ask_known(agent, page, members);
+                if is_missing {
+                    holes.ask_missing(agent, page, members);
+                } else if had_counts {
+                    holes.show_none(members);
+                }
             }
         }
+        self.has_counts.store(is_missing, Ordering::SeqCst);
     }
 }
 
@@ -81,34 +95,34 @@ impl PageHoles {
         }
     }
 
-    fn ask<W: Words + Drop>(&self, agent: &Agent<W>, page: &Page) {
-        for number in 0..MEMBERS {
+    // Stores the page, if the member knows of strokes there. A page keeps its slot and its strokes, so one that stands here isn't looked at again.
+    fn ask_known<W: Words + Drop>(&self, agent: &Agent<W>, page: &Page, members: u8) {
+        let code = code_of(*page);
+        if self.code.load(Ordering::SeqCst) != code && has_strokes(agent, page, members) {
+            self.code.store(code, Ordering::SeqCst);
+        }
+    }
+
+    // Stores how many drawops the member misses there, by source.
+    fn ask_missing<W: Words + Drop>(&self, agent: &Agent<W>, page: &Page, members: u8) {
+        for number in 0..members {
             if let Some(source) = Member::new(number) {
-                self.ask_known(agent, source, page);
-                self.ask_missing(agent, source, page);
+                let missing = agent.missing_of(Stream {
+                    source,
+                    page: *page,
+                });
+                self.show(source, missing);
             }
         }
     }
 
-    // Stores the page, if the member knows of strokes of this source there.
-    fn ask_known<W: Words + Drop>(&self, agent: &Agent<W>, source: Member, page: &Page) {
-        let stream = Stream {
-            source,
-            page: *page,
-        };
-        if agent.known(stream) > 0 {
-            self.code.store(code_of(*page), Ordering::SeqCst);
+    // Stores that the member misses nothing there.
+    fn show_none(&self, members: u8) {
+        for number in 0..members {
+            if let Some(source) = Member::new(number) {
+                self.show(source, 0);
+            }
         }
-    }
-
-    // Stores how many drawops of this source the member misses there.
-    fn ask_missing<W: Words + Drop>(&self, agent: &Agent<W>, source: Member, page: &Page) {
-        let stream = Stream {
-            source,
-            page: *page,
-        };
-        let missing = agent.missing_of(stream);
-        self.show(source, missing);
     }
 
     fn show(&self, source: Member, missing: u32) {
@@ -116,4 +130,20 @@ impl PageHoles {
             count.store(missing as usize, Ordering::SeqCst);
         }
     }
+}
+
+// Whether a member knows of strokes on a page.
+fn has_strokes<W: Words + Drop>(agent: &Agent<W>, page: &Page, members: u8) -> bool {
+    for number in 0..members {
+        if let Some(source) = Member::new(number) {
+            let stream = Stream {
+                source,
+                page: *page,
+            };
+            if agent.known(stream) > 0 {
+                return true;
+            }
+        }
+    }
+    false
 }

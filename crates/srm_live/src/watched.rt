@@ -80,12 +80,13 @@ impl Past<Entry> for Watched {
     }
 
     fn turned<W: Words + Drop>(&mut self, agent: &Agent<W>, counts: &WireCounts) {
+        let outstanding = agent.outstanding();
         if let Some(need) = &self.need {
-            need.show(&agent.outstanding());
+            need.show(&outstanding);
         }
         if let Some(watch) = &mut self.watch {
             watch.show_wire(counts);
-            watch.ask(agent);
+            watch.ask(agent, outstanding.missing);
         }
     }
 }
@@ -183,12 +184,15 @@ impl Watch {
         }
     }
 
-    // Shows what the member answers, if it may have changed: what it misses, by stream, which of its pages have strokes, who left, and whether others know of more than it drew.
-    fn ask<W: Words + Drop>(&mut self, agent: &Agent<W>) {
+    // Shows what the member answers, which misses so many drawops, if it may have changed: what it misses, by stream, which of its pages have strokes, who left, and whether others
+    // know of more than it drew.
+    fn ask<W: Words + Drop>(&mut self, agent: &Agent<W>, missing: u32) {
         if self.is_stale {
             self.is_stale = false;
-            self.tally.show_missing(agent.missing() as usize);
-            self.tally.holes().ask(agent);
+            self.tally.show_missing(missing as usize);
+            self.tally
+                .holes()
+                .ask(agent, self.config.members(), missing);
             self.look_for_left(agent);
             if self.claims.settle(agent) {
                 self.tally.note_earlier();

@@ -31,8 +31,19 @@ impl<W: Words + Drop> Agent<W> {
         self.store.missing_count(stream)
     }
 
-    /// Returns how many names are missing, over all streams. Takes no memory, changes nothing, and looks at 256 counts at most.
+    /// Returns how many names are missing, over all streams. Takes no memory, changes nothing, and looks at 256 counts at most, and at none where no request timer runs.
     pub fn missing(&self) -> u32
+        ensures { MissesInAll self.now result }
+    {
+        // Each missing name has a request timer, so most members are done here, without a look-up for each stream.
+        match self.next_request() {
+            Some(_) => self.missing_on_pages(),
+            None => 0,
+        }
+    }
+
+    /// How many names are missing on all pages.
+    fn missing_on_pages(&self) -> u32
         ensures { MissesInAll self.now result }
     {
         let pages = self.pages.as_slice();
