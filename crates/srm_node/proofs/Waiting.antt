@@ -11,7 +11,7 @@ use Rattle.srm_world.proofs.Wording.{by_more, no_words_recorded}
 use Rattle.srm_node.specs.Nodes.{NodeView, NodeState, recorded_in}
 use Rattle.srm_node.specs.Calls.{Calls}
 use Rattle.srm_node.specs.Turns.{Paused}
-use Rattle.srm_node.specs.Waits.{WaitsByWords}
+use Rattle.srm_node.specs.Waits.{ChosenByWords, WaitsByWords}
 
 pub waits_none : {W : Type 0} (next_word : W → ℕ × W) (r : RecorderView W) → WaitsByWords next_word r r
 waits_none next_word r = record { start = refl; words = no_words_recorded next_word r r refl }
@@ -42,3 +42,7 @@ waits_paused {W} {X} {C} next_word calls a b paused words begins = record {
   where
     journal : b.view.journal ≡ a.view.journal
     journal = ap (λ (n : NodeView X C). n.journal) paused.same
+
+-- what a node returns of its journal is by its random numbers
+pub chosen_by_words : {W : Type 0} (next_word : W → ℕ × W) (a b : RecorderView W) (last : Journal) → WaitsByWords next_word a b → last ≡ b.journal → ChosenByWords next_word a.journal a.words last
+chosen_by_words next_word a b last waits is = record { added = waits.words.added; grown = ap (λ (j : Journal). j.entries) is ∙ waits.words.grown; to = b.words; chosen = waits.words.words }

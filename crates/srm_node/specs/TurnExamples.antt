@@ -1,6 +1,6 @@
 -- The drawing, the leaving and the waits of a turn, at worked examples.
 use Rattle.std.specs.Prelude.{◌≡◌, ◌+◌, ◌<◌, ◌≤◌, ℕ, true, false, List, [], ◌∷◌, ◌++◌, map, Some, None, replicate, refl}
-use Rattle.std.proofs.Common.{arith, ap, inl, inr}
+use Rattle.std.proofs.Common.{arith, ap, inl, inr, subst, sym}
 use Rattle.srm_names.specs.Names.{first_page}
 use Rattle.srm_codec.specs.declared.datagram.Datagram.TheVariants.{Data}
 use Rattle.srm_timers.specs.ListedWords.{next_listed}
@@ -13,9 +13,9 @@ use Rattle.srm_entries.specs.Sample.{in_roster, drawop_of, draws, hears, ask_arm
 use Rattle.srm_agent.specs.Noting.{moment_that_counts}
 use Rattle.srm_world.specs.Traces.{Journal}
 use Rattle.srm_world.specs.Recording.{IsAt}
-use Rattle.srm_world.specs.WaitWords.{RecorderView}
+use Rattle.srm_world.specs.WaitWords.{RecorderView, AreByWords}
 use Rattle.srm_node.specs.Parts.{strokes_after, IsAdmitted, DrawsStrokes, DrewStrokes, DrawingEnds, is_to_leave, Leaves}
-use Rattle.srm_node.specs.Waits.{WaitsByWords}
+use Rattle.srm_node.specs.Waits.{ChosenByWords, WaitsByWords}
 use Rattle.srm_node.specs.Moments.{IsMadeAt, GrowsAt}
 use Rattle.srm_node.specs.Nodes.{moment_of}
 
@@ -108,6 +108,18 @@ behind_it wait words = record { journal = journal (first_drawn ∷ one_missing w
 
 waits_by_one_word : WaitsByWords next_listed before_it (behind_it 200005 (9 ∷ []))
 waits_by_one_word = record { start = refl; words = record { added = first_drawn ∷ one_missing 200005 ∷ []; grown = refl; words = (refl, refl); begins = refl } }
+
+-- so that number chose the wait of a journal that ends so, and it is no other wait
+chosen_by_one_word : ChosenByWords next_listed (journal []) (5 ∷ 9 ∷ []) (journal (first_drawn ∷ one_missing 200005 ∷ []))
+chosen_by_one_word = record { added = first_drawn ∷ one_missing 200005 ∷ []; grown = refl; to = 9 ∷ []; chosen = (refl, refl) }
+
+not_one_more : (n : ℕ) → n + 1 ≡ n → ⊥
+not_one_more n same = absurd (omega (arith, same))
+
+not_chosen : ChosenByWords next_listed (journal []) (5 ∷ 9 ∷ []) (journal (first_drawn ∷ one_missing 200006 ∷ [])) → ⊥
+not_chosen h =
+    let waits : AreByWords next_listed (in_roster 0 2 1051) (5 ∷ 9 ∷ []) (first_drawn ∷ one_missing 200006 ∷ []) h.to = subst (λ es. AreByWords next_listed (in_roster 0 2 1051) (5 ∷ 9 ∷ []) es h.to) (sym h.grown) h.chosen in
+    not_one_more 200005 waits.0
 
 -- THE CLOCK
 

@@ -4,8 +4,9 @@ ghost use Rattle.std.specs.Prelude.{◌≡◌, ◌+◌, ◌<◌, ◌≤◌, Bool
 ghost use Rattle.std.specs.Bool.{OnTrue, OnFalse};
 ghost use Rattle.srm_names.specs.declared.limits.TheConstants.{PAGES};
 ghost use Rattle.srm_node.specs.Calls.{calls_of};
-ghost use Rattle.srm_node.specs.Nodes.{NodeKeepsLists};
+ghost use Rattle.srm_node.specs.Nodes.{NodeKeepsLists, recorded_in};
 ghost use Rattle.srm_node.specs.Turns.{RunsToEnd};
+ghost use Rattle.srm_node.specs.Waits.{ChosenByWords, WaitsByWords};
 ghost use Rattle.srm_node.specs.Hosting.{start_of, starts_of, kinds_of, Starts, StartsUpTo, StopsBy, WorkedAs, WorkedEach, SameWell, SameLines, Hosts, HostsWith, HostStopsWith, HostFails, HostFailsWith, AreEndsOfLanes};
 
 use crate::fault::NodeFault;
@@ -89,6 +90,7 @@ pub fn host<
         (λ fault. (all : Bool) × HostFails (calls_of C.reads X.receives X.sends X.pauses) (kinds_of L.appended L.is_refused S.sees) all node.view (starts_of taps.items sinks.items) turns fault h)) }
     ensures lanes { IfOk result (λ h. IfOk h.end (λ _. AreEndsOfLanes node.view.feeds taps.items → AreEndsOfLanes h.feeds.items (map (λ w. w.tap) h.worked.items))) }
     ensures left { IfOk result (λ h. IfOk h.end (λ _. h.left.items ≡ [])) }
+    ensures words { IfOk result (λ h. ChosenByWords W.next_word node.view.journal node.words h.history.journal) }
     ensures begins { IfOk result (λ h. h.history.begins ≡ node.begins) }
 {
     let (hosted, _) = host_with_ends(rt, alloc, node, taps, sinks, turns)?;
@@ -132,6 +134,7 @@ pub fn host_with_ends<
     ensures left { IfOk result (λ r. IfOk r.0.end (λ _. r.0.left.items ≡ [])) }
     ensures well { IfOk result (λ r. IfOk r.0.end (λ _. SameWell node.view.well r.1.well)) }
     ensures control { IfOk result (λ r. IfOk r.0.end (λ _. SameLines node.view.control r.1.commands)) }
+    ensures words { IfOk result (λ r. ChosenByWords W.next_word node.view.journal node.words r.0.history.journal) }
     ensures begins { IfOk result (λ r. r.0.history.begins ≡ node.begins) }
 {
     let (mut workers, mut worked) = places(alloc)?;
@@ -177,6 +180,7 @@ fn go<
         (λ fault. HostStopsWith (calls_of C.reads X.receives X.sends X.pauses) (kinds_of L.appended L.is_refused S.sees) all node.view (map start_of workers.items) turns fault result.1 result.0) }
     ensures each { WorkedEach (kinds_of L.appended L.is_refused S.sees) (map start_of workers.items) result.0.worked.items }
     ensures left { result.0.left.items ≡ left.items }
+    ensures words { ChosenByWords W.next_word node.view.journal node.words result.0.history.journal }
     ensures begins { result.0.history.begins ≡ node.begins }
 {
     let mut node = node;
@@ -222,6 +226,7 @@ fn begin<
 }
 
 // Runs the node if all workers were started.
+#[tactic(auto, using(crate::proofs::Waiting::waits_none))]
 fn run_if<R: Wait, W: Words + Drop, X: Wire + Drop, C: Clock + Drop, P: Past<Entry> + Drop>(
     rt: &R,
     node: &mut Node<W, X, C, P>,
@@ -229,6 +234,7 @@ fn run_if<R: Wait, W: Words + Drop, X: Wire + Drop, C: Clock + Drop, P: Past<Ent
     turns: u64,
 ) -> Result<(), NodeFault>
     ensures runs { MatchResult result (λ _. (all ≡ true) × NodeKeepsLists node.new.view × RunsToEnd (calls_of C.reads X.receives X.sends X.pauses) turns node.old.view node.new.view) (λ fault. StopsBy (calls_of C.reads X.receives X.sends X.pauses) all fault turns node.old.view node.new.view) }
+    ensures words { WaitsByWords W.next_word (recorded_in node.old) (recorded_in node.new) }
     ensures begins { node.new.begins ≡ node.old.begins }
 {
     if !all {

@@ -62,7 +62,7 @@ impl<W: Words + Drop> Agent<W> {
     }
 }
 
-/// A drawop to hold and to send.
+/// A drawop to hold and to send, with its own moment as stamp.
 fn make_draft(
     alloc: Global,
     session: u32,
@@ -75,25 +75,15 @@ fn make_draft(
     ensures made { IfOk result (IsDraftOf session (record { name = name; stamp = moment; body = body })) }
     ensures spellable { OnOk result (is_drawop (record { name = name; stamp = moment; body = body })) }
 {
-    let held = stamped(name, moment, body);
-    let going = going(alloc, session, held.copy()?)?;
-    Ok(Draft { held, going })
-}
-
-/// A drawop with its own moment as stamp.
-fn stamped(name: Name, moment: u64, body: Bytes) -> Drawop
-    requires moment { moment ≤ LATEST_MOMENT }
-    requires short { length body ≤ LONGEST_BODY }
-    ensures value { result ≡ record { name = name; stamp = moment; body = body } }
-    ensures spellable { is_drawop result }
-{
     prove!(name.source().number() < MEMBERS);
     prove!(name.stream().page.creator.number() < MEMBERS);
-    Drawop {
+    let held = Drawop {
         name,
         stamp: moment,
         body,
-    }
+    };
+    let going = going(alloc, session, held.copy()?)?;
+    Ok(Draft { held, going })
 }
 
 /// A drawop to send. The rate charges the bytes of its datagram.

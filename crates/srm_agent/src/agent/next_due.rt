@@ -3,7 +3,6 @@
 ghost use Rattle.std.specs.Prelude.{◌≡◌, ◌&&◌, ◌==◌, max, length};
 ghost use Rattle.std.specs.Bool.{OnFalse, OnTrue};
 ghost use Rattle.srm_bucket.specs.declared.class.Class.TheVariants.{New};
-ghost use Rattle.srm_bucket.specs.Fits.{IsNextDeparture};
 ghost use Rattle.srm_bucket.specs.Waiting.{queue};
 ghost use Rattle.srm_deadlines.specs.Least.{lesser};
 ghost use Rattle.srm_entries.specs.Entries.{is_leaving};
@@ -45,7 +44,7 @@ impl<W: Words + Drop> Agent<W> {
     fn next_at(&self) -> u64
         ensures { IsNextAt self.now result }
     {
-        let first = lesser(self.next_timer(), self.next_to_go());
+        let first = lesser(self.next_timer(), self.bucket.wait_until());
         sooner(first, self.next_session_message())
     }
 
@@ -54,13 +53,6 @@ impl<W: Words + Drop> Agent<W> {
         ensures { TimersNext self.now.timers result }
     {
         self.timers.next_moment()
-    }
-
-    /// When the first of what waits for the bucket goes.
-    fn next_to_go(&self) -> Option<u64>
-        ensures { IsNextDeparture self.now.bucket result }
-    {
-        self.bucket.wait_until()
     }
 
     /// From when on a tick ends with a session message or a farewell, if nothing else happens before.

@@ -1,6 +1,8 @@
 use Rattle.srm_node.specs.Calls.{calls_of}
 use Rattle.srm_node.specs.Hosting.{kinds_of}
+use Rattle.srm_node.specs.Nodes.{recorded_in}
 use Rattle.srm_node.proofs.Hosts.{hosted}
+use Rattle.srm_node.proofs.Waiting.{chosen_by_words}
 use Rattle.srm_node.proofs.hosting.go.Goals as goal
 
 pub returns-clause-ends : goal.returns-clause-ends
@@ -8,3 +10,6 @@ returns-clause-ends g c = hosted (calls_of g.C.Clock.reads g.X.Wire.receives g.X
 
 pub returns-clause-each : goal.returns-clause-each
 returns-clause-each g c = c.join_all-worked.ensures
+
+pub returns-clause-words : goal.returns-clause-words
+returns-clause-words g c = chosen_by_words g.W.Words.next_word (recorded_in c.args.node) (recorded_in c.run_if-end.new.node) _ c.run_if-end.ensures.words c.into_parts-history.ensures.journal
