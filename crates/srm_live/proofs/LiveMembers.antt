@@ -5,6 +5,8 @@ use Rattle.srm_names.specs.declared.limits.TheConstants.{PAGES}
 use Rattle.srm_names.specs.declared.page_msg.PageMsg.{PageMsg}
 use Rattle.srm_names.specs.PageFeeds.{is_page_feed}
 use Rattle.srm_pages.specs.Ends.{TapView, PenView}
+use Rattle.rand_pcg.specs.Lcg.{Lcg}
+use Rattle.rand_pcg.specs.Pcg.{pcg64}
 use Rattle.srm_control.specs.Ends.{ControlView, new_commands}
 use Rattle.srm_udp.specs.Resting.{new_rested}
 use Rattle.srm_guard.specs.Seals.{SealView}
@@ -13,6 +15,8 @@ use Rattle.srm_guarded.specs.Keying.{IsKeyRead}
 use Rattle.srm_options.specs.declared.node_options.NodeOptions.{NodeOptions}
 use Rattle.srm_node.specs.Calls.{Calls}
 use Rattle.srm_node.specs.Nodes.{NodeState, NodeView}
+use Rattle.srm_node.specs.Waits.{ChosenByWords}
+use Rattle.srm_timers.specs.Seeds.{words_of}
 use Rattle.srm_script.specs.declared.fault.ScriptFault.{ScriptFault}
 use Rattle.srm_script.specs.declared.fault.ScriptFault.TheVariants.{StandardInput, TooLong, BadLine, Output, Memory}
 use Rattle.srm_member.specs.declared.fault.MemberFault.{MemberFault}
@@ -20,7 +24,7 @@ use Rattle.srm_member.specs.declared.fault.MemberFault.TheVariants.{Script}
 use Rattle.srm_member.specs.Statuses.{IsToldOf, fault_of_live, fault_with_call, fault_with_cause, status_of_member}
 use Rattle.srm_world.specs.RecordStarts.{RecordStart}
 use Rattle.srm_record.specs.Begun.{IsRecorded}
-use Rattle.srm_member.proofs.MemberRuns.{status_of_some, status_of_most, stored_if}
+use Rattle.srm_member.proofs.MemberRuns.{by_seed, new_journal, status_of_some, status_of_most, stored_if}
 use Rattle.srm_member.specs.MemberRuns.{IsStoredIf, member_calls}
 use Rattle.srm_member.specs.Stations.{BeginsIn, IsNewStation}
 use Rattle.srm_live.specs.declared.live_fault.LiveFault.{LiveFault}
@@ -79,28 +83,28 @@ whole_end run told fault cut noted is_complete was_before result of live_is cut_
     (told_none run told of (live_none told noted (sym live_is ∙ both.0)), both.1)
 
 -- the node that ran is the one that got a control
-pub lives_from : {W X C S F : Type 0} (calls : Calls X C) (Sees : S → ℕ → PageMsg → Bool → S → Type 0) (contents : F → Option (List ℕ)) (turns : ℕ) (known : Option (List ℕ)) (old new : NodeState W X C) (control : ControlView) (sinks : List S)
+pub lives_from : {X C S F : Type 0} (calls : Calls X C) (Sees : S → ℕ → PageMsg → Bool → S → Type 0) (contents : F → Option (List ℕ)) (turns : ℕ) (known : Option (List ℕ)) (old new : NodeState Lcg X C) (control : ControlView) (sinks : List S)
     → new ≡ record old { view = record old.view { control = Some (new_commands control.out control.back) } }
-    → ((took : List (List PageMsg)) × (whole : IsWholeLiveRun calls turns known new.view took) × SawWhole Sees sinks took × (file : Option F) × IsRecorded contents new.begins whole.host.last.journal.entries took file)
-    → LivesFrom calls Sees contents turns known old.view old.begins sinks
-lives_from {W} {X} {C} calls Sees contents turns known old new control sinks is (took, whole, saw, file, recorded) =
-    let both : (w : IsWholeLiveRun calls turns known (record old.view { control = Some (new_commands control.out control.back) }) took) × IsRecorded contents old.begins w.host.last.journal.entries took file =
-    subst (λ (n : NodeState W X C). (w : IsWholeLiveRun calls turns known n.view took) × IsRecorded contents n.begins w.host.last.journal.entries took file) is (whole, recorded) in
-    record { commands = new_commands control.out control.back; fresh = refl; took = took; whole = both.0; saw = saw; file = file; recorded = both.1 }
+    → ((took : List (List PageMsg)) × (whole : IsWholeLiveRun calls turns known new.view took) × SawWhole Sees sinks took × (file : Option F) × IsRecorded contents new.begins whole.host.last.journal.entries took file × ChosenByWords pcg64 new.view.journal new.words whole.host.last.journal)
+    → LivesFrom calls Sees contents turns known old.view old.words old.begins sinks
+lives_from {X} {C} calls Sees contents turns known old new control sinks is (took, whole, saw, file, recorded, chosen) =
+    let both : (w : IsWholeLiveRun calls turns known (record old.view { control = Some (new_commands control.out control.back) }) took) × IsRecorded contents old.begins w.host.last.journal.entries took file × ChosenByWords pcg64 old.view.journal old.words w.host.last.journal =
+    subst (λ (n : NodeState Lcg X C). (w : IsWholeLiveRun calls turns known n.view took) × IsRecorded contents n.begins w.host.last.journal.entries took file × ChosenByWords pcg64 n.view.journal n.words w.host.last.journal) is (whole, recorded, chosen) in
+    record { commands = new_commands control.out control.back; fresh = refl; took = took; whole = both.0; saw = saw; file = file; recorded = both.1; chosen = both.2 }
 
 -- what each sink printed, of what the journal gave
-printed_each : {X C F : Type 0} (calls : Calls X C) (contents : F → Option (List ℕ)) (turns : ℕ) (known : Option (List ℕ)) (node : NodeView X C) (begins : Option RecordStart) (sinks : List PrintingView) (lives : LivesFrom calls PrintsLine contents turns known node begins sinks) → PrintedEach sinks lives.took
-printed_each calls contents turns known node begins sinks lives slot s ms at_s at_ms =
+printed_each : {X C F : Type 0} (calls : Calls X C) (contents : F → Option (List ℕ)) (turns : ℕ) (known : Option (List ℕ)) (node : NodeView X C) (words : Lcg) (begins : Option RecordStart) (sinks : List PrintingView) (lives : LivesFrom calls PrintsLine contents turns known node words begins sinks) → PrintedEach sinks lives.took
+printed_each calls contents turns known node words begins sinks lives slot s ms at_s at_ms =
     let (closed, last, seen) = lives.saw slot s ms at_s at_ms in
     let host = lives.whole.host in
     let fed : is_page_feed ms ≡ true = ap is_page_feed (host.takes slot ms at_ms) ∙ host.keeps.lawful.gives.feeds slot in
     (last, seen, prints_whole slot ms s last fed closed seen)
 
 -- and it was that of a new station
-pub lives_with : {F : Type 0} (contents remaining : F → Option (List ℕ)) (options : NodeOptions) (known : Option (List ℕ)) (sinks : List PrintingView) (key : Option (List ℕ)) (seal : Option SealView) (node : MemberNode) (taps : List TapView) (pens : List PenView) (opened : Option F) (begins : Option RecordStart)
-    → is_some key ≡ is_some options.guard.key → IsKeyRead remaining options.guard.key key → IsSealBy key options.config.me seal → IsNewStation options.config 0 options.guard.most_missing None (new_rested (guarded_wire options.addresses.items options.guard seal)) node taps pens → is_some opened ≡ is_some options.«record» → BeginsIn contents opened options.seed node.journal.start begins
-    → LivesFrom member_calls PrintsLine contents options.turns known node begins sinks → LivesWith contents remaining options known sinks
-lives_with contents remaining options known sinks key seal node taps pens opened begins keyed read sealed new asked began lives = record {
+pub lives_with : {F : Type 0} (contents remaining : F → Option (List ℕ)) (options : NodeOptions) (known : Option (List ℕ)) (sinks : List PrintingView) (key : Option (List ℕ)) (seal : Option SealView) (node : MemberNode) (taps : List TapView) (pens : List PenView) (opened : Option F) (words : Lcg) (begins : Option RecordStart)
+    → is_some key ≡ is_some options.guard.key → IsKeyRead remaining options.guard.key key → IsSealBy key options.config.me seal → IsNewStation options.config 0 options.guard.most_missing None (new_rested (guarded_wire options.addresses.items options.guard seal)) node taps pens → is_some opened ≡ is_some options.«record» → words ≡ words_of options.seed → BeginsIn contents opened options.seed node.journal.start begins
+    → LivesFrom member_calls PrintsLine contents options.turns known node words begins sinks → LivesWith contents remaining options known sinks
+lives_with contents remaining options known sinks key seal node taps pens opened words begins keyed read sealed new asked seeded began lives = record {
   key = key;
   keyed = keyed;
   read = read;
@@ -110,9 +114,11 @@ lives_with contents remaining options known sinks key seal node taps pens opened
   taps = taps;
   pens = pens;
   new = new;
+  words = words;
   begins = begins;
   lives = lives;
-  printed = printed_each member_calls contents options.turns known node begins sinks lives;
+  printed = printed_each member_calls contents options.turns known node words begins sinks lives;
+  seeded = by_seed options.seed options.config node.journal lives.whole.host.last.journal words (new_journal options.config 0 options.guard.most_missing None (new_rested (guarded_wire options.addresses.items options.guard seal)) node taps pens new) seeded lives.chosen;
   stored =
       subst (λ (b : Bool). IsStoredIf contents b options.seed node.journal.start lives.whole.host.last.journal.entries lives.took) asked
       (stored_if contents opened lives.file options.seed node.journal.start begins lives.whole.host.last.journal.entries lives.took began lives.recorded);

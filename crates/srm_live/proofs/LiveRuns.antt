@@ -3,6 +3,8 @@ use Rattle.std.proofs.Common.{◌≡◌, ℕ, zero, suc, ◌+◌, ◌<◌, ◌�
 use Rattle.std.specs.Prelude.{Option, Some, None, Result, Ok, Err, slice_get, IfOk, IfSome, MatchResult}
 use Rattle.std.proofs.lemmas.Option.{same_Some}
 use Rattle.std.specs.List.{AllByRecursion, list_all, list_any, zip}
+use Rattle.rand_pcg.specs.Lcg.{Lcg}
+use Rattle.rand_pcg.specs.Pcg.{pcg64}
 use Rattle.srm_names.specs.declared.limits.TheConstants.{PAGES, PENS}
 use Rattle.srm_names.specs.declared.page_msg.PageMsg.{PageMsg}
 use Rattle.srm_names.specs.Names.{first_page}
@@ -24,6 +26,7 @@ use Rattle.srm_control.specs.declared.command.PageCommand.{PageCommand}
 use Rattle.srm_control.specs.declared.command.PageAnswer.{PageAnswer}
 use Rattle.srm_control.specs.Ends.{ControlView, CommandsView, new_control, new_commands}
 use Rattle.srm_node.specs.Nodes.{NodeView, NodeState}
+use Rattle.srm_node.specs.Waits.{ChosenByWords}
 use Rattle.srm_node.specs.Hosting.{Kinds, HostsWith, HostFailsWith, SameWell, SameLines}
 use Rattle.srm_member.specs.Stations.{HasNewEnds}
 use Rattle.srm_member.specs.Statuses.{fault_of, fault_of_lists}
@@ -157,14 +160,14 @@ has_commands end lacks before after new none is same =
     let (c, after_is, out, back) = subst (λ o. SameLines o after) is (without_fault end lacks (SameLines before after) none same) in
     (c, after_is)
 
-pub live_run : {P L S X C F : Type 0} (drew_all : Bool) (calls : Calls X C) (kinds : Kinds L S) (turns : ℕ) (node : NodeView X C) (taps : List TapView) (pens : List PenView) (control : ControlView) (sinks : List S) (left : NodeEnds) (h : Hosted P L) (lacks closed : Bool) (known : Option (List ℕ)) (first : PenView) (others : List PenView) (last : ControlView) (contents : F → Option (List ℕ)) (begins : Option RecordStart) (file : Option F)
+pub live_run : {P L S X C F : Type 0} (drew_all : Bool) (calls : Calls X C) (kinds : Kinds L S) (turns : ℕ) (node : NodeView X C) (taps : List TapView) (pens : List PenView) (control : ControlView) (sinks : List S) (left : NodeEnds) (h : Hosted P L) (lacks closed : Bool) (known : Option (List ℕ)) (first : PenView) (others : List PenView) (last : ControlView) (contents : F → Option (List ℕ)) (words : Lcg) (begins : Option RecordStart) (file : Option F)
     → drew_all ≡ true → list_any was_stopped h.worked.items ≡ false → HasNewEnds node taps pens → (control ≡ new_control control.out control.back) × (node.control ≡ Some (new_commands control.out control.back)) → length sinks ≡ PAGES
     → MatchResult h.end (λ _. HostsWith calls kinds node (zip taps sinks) turns left h) (λ fault. (all : Bool) × HostFailsWith calls kinds all node (zip taps sinks) turns fault left h) → IfOk h.end (λ _. SameLines node.control left.commands)
     → closed ≡ list_all (λ (w : Worked L). list_any is_close (kinds.entries w.list)) h.worked.items → fault_of_lists (fault_of h.end lacks) closed ≡ None → TakePrefixes h.feeds.items (map (λ (w : Worked L). w.tap) h.worked.items)
     → HaveTyped drew_all known pens control first others last → IsReceivedOf left.well.received first → AllByRecursion (IsReceivedOf left.well.received) others → AreFirstOf left.commands last
-    → IsRecorded contents begins h.history.journal.entries (map (λ (w : Worked L). kinds.entries w.list) h.worked.items) file
-    → (took : List (List PageMsg)) × (whole : IsWholeLiveRun calls turns known node took) × SawWhole kinds.sees sinks took × (last_file : Option F) × IsRecorded contents begins whole.host.last.journal.entries took last_file
-live_run {P} {L} drew_all calls kinds turns node taps pens control sinks left h lacks closed known first others last contents begins file drew none_stopped ends new count ran same closed_is none takes typed part parts heard recorded =
+    → IsRecorded contents begins h.history.journal.entries (map (λ (w : Worked L). kinds.entries w.list) h.worked.items) file → ChosenByWords pcg64 node.journal words h.history.journal
+    → (took : List (List PageMsg)) × (whole : IsWholeLiveRun calls turns known node took) × SawWhole kinds.sees sinks took × (last_file : Option F) × IsRecorded contents begins whole.host.last.journal.entries took last_file × ChosenByWords pcg64 node.journal words whole.host.last.journal
+live_run {P} {L} drew_all calls kinds turns node taps pens control sinks left h lacks closed known first others last contents words begins file drew none_stopped ends new count ran same closed_is none takes typed part parts heard recorded chosen =
     let no_fault = of_lists _ _ _ refl none in
     let host : HostsWith calls kinds node (zip taps sinks) turns left h = hosted_whole h.end lacks _ _ no_fault ran in
     let all : list_all (λ (w : Worked L). list_any is_close (kinds.entries w.list)) h.worked.items ≡ true = sym closed_is ∙ lists_closed _ _ _ refl none in
@@ -179,4 +182,5 @@ live_run {P} {L} drew_all calls kinds turns node taps pens control sinks left h 
       saw_whole kinds taps sinks h.worked.items ends.new_taps host.0.workers none_stopped all,
       file,
       subst (λ (j : Journal). IsRecorded contents begins j.entries (map (λ (w : Worked L). kinds.entries w.list) h.worked.items) file) journal_is recorded,
+      subst (λ (j : Journal). ChosenByWords pcg64 node.journal words j) journal_is chosen,
     )

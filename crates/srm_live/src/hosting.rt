@@ -7,7 +7,9 @@ ghost use Rattle.srm_names.specs.declared.limits.TheConstants.{PAGES};
 ghost use Rattle.srm_names.specs.declared.page_msg.PageMsg.{PageMsg as AMessage};
 ghost use Rattle.srm_control.specs.Ends.{new_control, new_commands};
 ghost use Rattle.srm_node.specs.Calls.{calls_of};
+ghost use Rattle.rand_pcg.specs.Pcg.{pcg64};
 ghost use Rattle.srm_node.specs.Hosting.{AreEndsOfLanes};
+ghost use Rattle.srm_node.specs.Waits.{ChosenByWords};
 ghost use Rattle.srm_udp.specs.Clocks.{NeverFalls};
 ghost use Rattle.srm_member.specs.Stations.{HasNewEnds};
 ghost use Rattle.srm_member.specs.Statuses.{fault_of, fault_of_lists, lacks_memory, IsRecordedEnd};
@@ -77,7 +79,7 @@ where
     requires new { HasNewEnds station.node.view station.taps.items station.pens.items }
     requires control { (pages ≡ new_control pages.out pages.back) × (station.node.view.control ≡ Some (new_commands pages.out pages.back)) }
     requires sinks { vec_len sinks ≡ PAGES }
-    ensures { result.fault ≡ None → result.is_complete ≡ true → ((took : List (List AMessage)) × (whole : IsWholeLiveRun (calls_of NeverFalls X.receives X.sends X.pauses) turns (I.remaining reader) station.node.view took) × SawWhole S.sees sinks.items took × (file : Option F) × IsRecorded F.contents station.node.begins whole.host.last.journal.entries took file) }
+    ensures { result.fault ≡ None → result.is_complete ≡ true → ((took : List (List AMessage)) × (whole : IsWholeLiveRun (calls_of NeverFalls X.receives X.sends X.pauses) turns (I.remaining reader) station.node.view took) × SawWhole S.sees sinks.items took × (file : Option F) × IsRecorded F.contents station.node.begins whole.host.last.journal.entries took file × ChosenByWords pcg64 station.node.view.journal station.node.words whole.host.last.journal) }
 {
     let Station {
         node,

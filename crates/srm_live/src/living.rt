@@ -2,6 +2,7 @@
 
 ghost use Rattle.std.specs.Prelude.{◌≡◌, ◌≤◌, true, None, vec_len, IfOk};
 ghost use Rattle.srm_names.specs.declared.limits.TheConstants.{PAGES};
+ghost use Rattle.srm_timers.specs.Seeds.{words_of};
 ghost use Rattle.srm_node.specs.Calls.{calls_of};
 ghost use Rattle.srm_udp.specs.Clocks.{NeverFalls};
 ghost use Rattle.srm_udp.specs.Resting.{new_rested};
@@ -195,7 +196,7 @@ where
     E: Write + Send + Drop + 'static,
     requires new { HasNewEnds station.node.view station.taps.items station.pens.items }
     requires sinks { vec_len sinks ≡ PAGES }
-    ensures { IsWholeEnd result → LivesFrom (calls_of NeverFalls X.receives X.sends X.pauses) S.sees F.contents turns (I.remaining reader) station.node.view station.node.begins sinks.items }
+    ensures { IsWholeEnd result → LivesFrom (calls_of NeverFalls X.receives X.sends X.pauses) S.sees F.contents turns (I.remaining reader) station.node.view station.node.words station.node.begins sinks.items }
 {
     let mut station = station;
     let Ok(control) = station.node.control(alloc) else {
@@ -254,6 +255,7 @@ where
     O: Write,
     E: Write,
     ensures new { IfOk result (λ b. IsNewStation options.config 0 options.guard.most_missing None (new_rested (guarded_wire options.addresses.items options.guard seal)) b.0.node.view b.0.taps.items b.0.pens.items) }
+    ensures words { IfOk result (λ b. b.0.node.words ≡ words_of options.seed) }
     ensures begins { IfOk result (λ b. BeginsIn F.contents file options.seed b.0.node.view.journal.start b.0.node.begins) }
 {
     let need = Arc::try_clone(&staying.need).ok();

@@ -1,6 +1,8 @@
 -- What a member that is run by its options comes to.
-use Rattle.std.proofs.Common.{◌≡◌, ◌⊎◌, ◌≤◌, ℕ, List, refl, ap, ◌∙◌, subst, inl, inr, arith, lit≤}
+use Rattle.std.proofs.Common.{◌≡◌, ◌⊎◌, ◌≤◌, ℕ, List, [], ◌++◌, refl, ap, sym, ◌∙◌, subst, inl, inr, arith, lit≤}
 use Rattle.std.specs.Io.KnownBytes.{Keeps}
+use Rattle.rand_pcg.specs.Lcg.{Lcg}
+use Rattle.rand_pcg.specs.Pcg.{pcg64}
 use Rattle.std.specs.Prelude.{Bool, true, false, Option, Some, None, Result, Ok, Err, IfSome, IfErr, is_some}
 use Rattle.srm_udp.specs.declared.first_failure.WireFailure.{WireFailure}
 use Rattle.srm_script.specs.declared.fault.ScriptFault.TheVariants.{StandardInput, TooLong, BadLine, Output, Memory}
@@ -24,8 +26,14 @@ use Rattle.srm_world.specs.declared.start.Start.{Start}
 use Rattle.srm_world.specs.RecordStarts.{RecordStart}
 use Rattle.srm_record.specs.Begun.{IsRecorded}
 use Rattle.srm_node.specs.Nodes.{NodeView}
+use Rattle.srm_node.specs.Waits.{ChosenByWords}
+use Rattle.srm_wire.specs.Wires.{Told}
+use Rattle.srm_timers.specs.Seeds.{words_of}
+use Rattle.srm_entries.specs.Configs.{Config}
+use Rattle.srm_world.specs.Traces.{Journal}
+use Rattle.srm_world.specs.WaitWords.{AreByWords}
 use Rattle.srm_member.specs.Stations.{BeginsIn, IsNewStation}
-use Rattle.srm_member.specs.MemberRuns.{FaultKeeps, IsStoredIf, RecordsWholeRun, RunsRecorded, member_calls}
+use Rattle.srm_member.specs.MemberRuns.{AreBySeed, FaultKeeps, IsStoredIf, RecordsWholeRun, RunsRecorded, member_calls}
 
 -- the lines that are dealt are those of the input, if that is known
 pub lines_known : (known : Option (List ℕ)) (input text : List ℕ) (dealt : List (List (List ℕ))) → IfSome known (λ t. input ≡ t) → text ≡ input → dealt ≡ dealt_of (lines_of text) → IfSome known (λ t. dealt ≡ dealt_of (lines_of t))
@@ -117,12 +125,25 @@ stored_if contents None closed seed start begins es took began recorded = tt
 stored_if contents (Some file) None seed start begins es took (r, is, at, by, first) recorded = absurd (subst (λ b. IsRecorded contents b es took None) is recorded)
 stored_if contents (Some file) (Some last) seed start begins es took (r, is, at, by, first) recorded = (file, last, r, at, by, first, subst (λ b. IsRecorded contents b es took (Some last)) is recorded)
 
+-- the journal of a new station is empty, and has its settings
+pub new_journal : {X C : Type 0} (config : Config) (stay : ℕ) (most : Option ℕ) (told : Option Told) (wire : X) (node : NodeView X C) (taps : List TapView) (pens : List PenView) → IsNewStation config stay most told wire node taps pens → (node.journal.start.config ≡ config) × (node.journal.entries ≡ [])
+new_journal {X} {C} config stay most told wire node taps pens new = (ap (λ (n : NodeView X C). n.journal.start.config) new.new.is, ap (λ (n : NodeView X C). n.journal.entries) new.new.is)
+
+-- what a node did that began with the random numbers of a seed, and with an empty journal
+pub by_seed : (seed : ℕ) (config : Config) (journal last : Journal) (words : Lcg) → (journal.start.config ≡ config) × (journal.entries ≡ []) → words ≡ words_of seed → ChosenByWords pcg64 journal words last → AreBySeed seed config last.entries
+by_seed seed config journal last words new seeded h =
+    let grown : last.entries ≡ h.added = h.grown ∙ ap (λ (es : List Entry). es ++ h.added) new.1 in
+    let by_words : AreByWords pcg64 journal.start.config (words_of seed) h.added h.to = subst (λ (w : Lcg). AreByWords pcg64 journal.start.config w h.added h.to) seeded h.chosen in
+    let by_config : AreByWords pcg64 config (words_of seed) h.added h.to = subst (λ (c : Config). AreByWords pcg64 c (words_of seed) h.added h.to) new.0 by_words in
+    (h.to, subst (λ (es : List Entry). AreByWords pcg64 config (words_of seed) es h.to) (sym grown) by_config)
+
 -- a member whose station ran to its end, with the file that was opened for its record, if one was
 pub recorded_member : {F : Type 0} (contents remaining : F → Option (List ℕ)) (options : NodeOptions) (input before after : Option (List ℕ)) (key : Option (List ℕ)) (seal : Option SealView) (node : NodeView (RestedView (GuardView UdpView)) ClockView) (taps : List TapView) (pens : List PenView) (dealt : List (List (List ℕ))) (opened closed : Option F)
-    (begins : Option RecordStart) → is_some key ≡ is_some options.guard.key → IsKeyRead remaining options.guard.key key → IsSealBy key options.config.me seal → IsNewStation options.config options.stay options.guard.most_missing None (new_rested (guarded_wire options.addresses.items options.guard seal)) node taps pens → IfSome input (λ text. dealt ≡ dealt_of (lines_of text))
-    → is_some opened ≡ is_some options.«record» → BeginsIn contents opened options.seed node.journal.start begins → RunsRecorded contents member_calls options.turns dealt node begins closed before after → RecordsWholeRun contents remaining options input before after
-recorded_member {F} contents remaining options input before after key seal node taps pens dealt opened closed begins keyed read sealed new lines asked began (took, whole, printed, recorded) = record {
+    (words : Lcg) (begins : Option RecordStart) → is_some key ≡ is_some options.guard.key → IsKeyRead remaining options.guard.key key → IsSealBy key options.config.me seal → IsNewStation options.config options.stay options.guard.most_missing None (new_rested (guarded_wire options.addresses.items options.guard seal)) node taps pens → IfSome input (λ text. dealt ≡ dealt_of (lines_of text))
+    → is_some opened ≡ is_some options.«record» → words ≡ words_of options.seed → BeginsIn contents opened options.seed node.journal.start begins → RunsRecorded contents member_calls options.turns dealt node words begins closed before after → RecordsWholeRun contents remaining options input before after
+recorded_member {F} contents remaining options input before after key seal node taps pens dealt opened closed words begins keyed read sealed new lines asked seeded began (took, whole, printed, recorded, chosen) = record {
   run = record { key = key; keyed = keyed; seal = seal; sealed = sealed; node = node; taps = taps; pens = pens; new = new; dealt = dealt; lines = lines; took = took; whole = whole; printed = printed };
   read = read;
+  seeded = by_seed options.seed options.config node.journal whole.host.last.journal words (new_journal options.config options.stay options.guard.most_missing None (new_rested (guarded_wire options.addresses.items options.guard seal)) node taps pens new) seeded chosen;
   stored = subst (λ (b : Bool). IsStoredIf contents b options.seed node.journal.start whole.host.last.journal.entries took) asked (stored_if contents opened closed options.seed node.journal.start begins whole.host.last.journal.entries took began recorded);
 }

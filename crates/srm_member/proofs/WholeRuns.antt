@@ -6,6 +6,8 @@ use Rattle.std.specs.Io.KnownBytes.{Appends}
 use Rattle.std.specs.List.{AllByRecursion, list_all, list_any, zip}
 use Rattle.std.proofs.lemmas.Option.{same_Some, slice_get_within}
 use Rattle.std.proofs.lemmas.List.{append-nil, map-append, length-map}
+use Rattle.rand_pcg.specs.Lcg.{Lcg}
+use Rattle.rand_pcg.specs.Pcg.{pcg64}
 use Rattle.srm_names.specs.declared.limits.TheConstants.{PAGES, PENS}
 use Rattle.srm_names.specs.declared.page_msg.PageMsg.{PageMsg}
 use Rattle.srm_names.specs.Histories.{IsPrefix}
@@ -24,6 +26,7 @@ use Rattle.srm_node.specs.declared.hosting.NodeEnds.{NodeEnds}
 use Rattle.srm_node.specs.declared.working.Worked.{Worked}
 use Rattle.srm_node.specs.Calls.{Calls}
 use Rattle.srm_node.specs.Nodes.{NodeView}
+use Rattle.srm_node.specs.Waits.{ChosenByWords}
 use Rattle.srm_node.specs.Working.{SeesEach, is_stopped}
 use Rattle.srm_node.specs.Hosting.{Kinds, WorkedAs, WorkedEach, HostsWith, SameWell}
 use Rattle.srm_member.specs.Stations.{AreNewTaps, HasNewEnds}
@@ -181,18 +184,19 @@ printed_run {P} {L} calls kinds turns node taps pens inked sinks dealt left h be
   subst (λ (m : ℕ). Appends before after (taken_text m (map (λ (w : Worked L). kinds.entries w.list) h.worked.items))) (of ∙ ap (λ (j : Journal). j.start.config.me) x.journal) printed,
 )
 
--- and the file of its record has all of it
+-- the file of its record has all of it, and the node's random numbers chose its waits
 pub recorded_run : {P L S X C F : Type 0} (calls : Calls X C) (kinds : Kinds L S) (turns : ℕ) (node : NodeView X C) (taps : List TapView) (pens inked : List PenView) (sinks : List S) (dealt : List (List (List ℕ))) (left : NodeEnds) (h : Hosted P L) (before after : Option (List ℕ)) (me : ℕ)
-    (contents : F → Option (List ℕ)) (begins : Option RecordStart) (file : Option F) → HasNewEnds node taps pens → length sinks ≡ PAGES → HostsWith calls kinds node (zip taps sinks) turns left h → PensDrew true (zip pens dealt) inked
+    (contents : F → Option (List ℕ)) (words : Lcg) (begins : Option RecordStart) (file : Option F) → HasNewEnds node taps pens → length sinks ≡ PAGES → HostsWith calls kinds node (zip taps sinks) turns left h → PensDrew true (zip pens dealt) inked
     → TakePrefixes h.feeds.items (map (λ (w : Worked L). w.tap) h.worked.items) → list_all (λ (w : Worked L). list_any is_close (kinds.entries w.list)) h.worked.items ≡ true → AllByRecursion (IsReceivedOf left.well.received) inked → me ≡ h.history.journal.start.config.me
-    → Appends before after (taken_text me (map (λ (w : Worked L). kinds.entries w.list) h.worked.items)) → IsRecorded contents begins h.history.journal.entries (map (λ (w : Worked L). kinds.entries w.list) h.worked.items) file
+    → Appends before after (taken_text me (map (λ (w : Worked L). kinds.entries w.list) h.worked.items)) → IsRecorded contents begins h.history.journal.entries (map (λ (w : Worked L). kinds.entries w.list) h.worked.items) file → ChosenByWords pcg64 node.journal words h.history.journal
     → (whole : IsWholeRun calls turns dealt node (map (λ (w : Worked L). kinds.entries w.list) h.worked.items)) × Appends before after (taken_text whole.host.last.journal.start.config.me (map (λ (w : Worked L). kinds.entries w.list) h.worked.items))
-    × IsRecorded contents begins whole.host.last.journal.entries (map (λ (w : Worked L). kinds.entries w.list) h.worked.items) file
+    × IsRecorded contents begins whole.host.last.journal.entries (map (λ (w : Worked L). kinds.entries w.list) h.worked.items) file × ChosenByWords pcg64 node.journal words whole.host.last.journal
 unfolding whole_run whole_host
-recorded_run {P} {L} calls kinds turns node taps pens inked sinks dealt left h before after me contents begins file ends count (x, well_is, control_is) drew takes closed parts of printed recorded = (
+recorded_run {P} {L} calls kinds turns node taps pens inked sinks dealt left h before after me contents words begins file ends count (x, well_is, control_is) drew takes closed parts of printed recorded chosen = (
   whole_run calls kinds turns node taps pens inked sinks dealt left h ends count (x, well_is, control_is) drew takes closed parts,
   subst (λ (m : ℕ). Appends before after (taken_text m (map (λ (w : Worked L). kinds.entries w.list) h.worked.items))) (of ∙ ap (λ (j : Journal). j.start.config.me) x.journal) printed,
   subst (λ (j : Journal). IsRecorded contents begins j.entries (map (λ (w : Worked L). kinds.entries w.list) h.worked.items) file) x.journal recorded,
+  subst (λ (j : Journal). ChosenByWords pcg64 node.journal words j) x.journal chosen,
 )
 
 -- what holds where a check went well

@@ -11,7 +11,8 @@ use Rattle.srm_node.specs.declared.fault.NodeFault.TheVariants as node
 use Rattle.srm_member.specs.declared.fault.MemberFault.TheVariants.{Script, Wire, Turns, Record}
 use Rattle.srm_member.specs.Lines.{lines_of, each_fourth, bad_line}
 use Rattle.srm_member.specs.Statuses.{fault_of, fault_of_lists, fault_of_live, fault_of_binding, status_of_member, IsRecordedEnd}
-use Rattle.srm_member.specs.MemberRuns.{FaultKeeps}
+use Rattle.srm_entries.specs.Configs.{Config}
+use Rattle.srm_member.specs.MemberRuns.{AreBySeed, FaultKeeps}
 use Rattle.srm_member.specs.TakenText.{taken_text}
 use Rattle.srm_timers.specs.Seeds.{words_of}
 
@@ -68,6 +69,13 @@ a_system_without_memory = refl
 the_words_that_7_starts : words_of 7 ≡ record { state = 75399758779710541671558023171123802774; increment = 83908065895571479823384977301799156541 }
 unfolding words_of u32_at pcg32_seed word_bytes
 the_words_that_7_starts = refl
+
+-- a member that set no timer consumed no random number
+no_timer_was_set : (c : Config) → AreBySeed 7 c []
+no_timer_was_set c = (words_of 7, refl)
+
+and_consumed_none : (c : Config) (h : AreBySeed 7 c []) → h.0 ≡ words_of 7
+and_consumed_none c h = h.1
 
 a_member_that_is_gone : taken_text 0 ([] ∷ [] ∷ []) ≡ codes "gone 0" ++ 10 ∷ []
 unfolding digits

@@ -110,7 +110,7 @@ where
     P: Past<Entry> + Drop,
     O: Write,
     requires { HasNewEnds station.node.view station.taps.items station.pens.items }
-    ensures whole { IfOk result (λ file. RunsRecorded F.contents (calls_of NeverFalls X.receives X.sends X.pauses) turns (map (λ bodies. bodies.items) dealt.items) station.node.view station.node.begins file (O.contents out.old) (O.contents out.new)) }
+    ensures whole { IfOk result (λ file. RunsRecorded F.contents (calls_of NeverFalls X.receives X.sends X.pauses) turns (map (λ bodies. bodies.items) dealt.items) station.node.view station.node.words station.node.begins file (O.contents out.old) (O.contents out.new)) }
     ensures nothing { IfErr result (λ fault. FaultKeeps fault (PrintsRun (calls_of NeverFalls X.receives X.sends X.pauses) turns (map (λ bodies. bodies.items) dealt.items) station.node.view (O.contents out.old) (O.contents out.new)) (O.contents out.old) (O.contents out.new)) }
 {
     match run_station(rt, alloc, station, dealt, turns, out) {
@@ -142,7 +142,7 @@ where
     P: Past<Entry> + Drop,
     O: Write,
     requires { HasNewEnds station.node.view station.taps.items station.pens.items }
-    ensures whole { IfOk result (λ file. RunsRecorded F.contents (calls_of NeverFalls X.receives X.sends X.pauses) turns (map (λ bodies. bodies.items) dealt.items) station.node.view station.node.begins file (O.contents out.old) (O.contents out.new)) }
+    ensures whole { IfOk result (λ file. RunsRecorded F.contents (calls_of NeverFalls X.receives X.sends X.pauses) turns (map (λ bodies. bodies.items) dealt.items) station.node.view station.node.words station.node.begins file (O.contents out.old) (O.contents out.new)) }
     ensures nothing { IfErr result (λ fault. FaultKeeps fault (PrintsRun (calls_of NeverFalls X.receives X.sends X.pauses) turns (map (λ bodies. bodies.items) dealt.items) station.node.view (O.contents out.old) (O.contents out.new)) (O.contents out.old) (O.contents out.new)) }
 {
     let Ran {

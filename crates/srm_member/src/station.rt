@@ -6,6 +6,8 @@ ghost use Rattle.srm_pages.specs.Ends.{AreNewPens};
 ghost use Rattle.srm_node.specs.Nodes.{AreNewFeeds};
 ghost use Rattle.std.specs.IoError.{error_kind};
 ghost use Rattle.srm_node.specs.Calls.{calls_of};
+ghost use Rattle.rand_pcg.specs.Pcg.{pcg64};
+ghost use Rattle.srm_node.specs.Waits.{ChosenByWords};
 ghost use Rattle.srm_node.specs.Hosting.{kinds_of, starts_of, Hosts, HostsWith, HostFails, HostFailsWith, SameWell, SameLines, AreEndsOfLanes};
 ghost use Rattle.srm_udp.specs.Clocks.{NeverFalls};
 ghost use Rattle.srm_udp.specs.Resting.{new_rested};
@@ -212,6 +214,7 @@ impl<R: time::Clock + Copy + Drop, X: Wire + Drop, P: Past<Entry> + Drop> Statio
         ensures hosts { IfOk result (λ h. (sinks : List Unseen) × (length sinks ≡ PAGES) × MatchResult h.end (λ _. Hosts (calls_of NeverFalls X.receives X.sends X.pauses) (kinds_of L.appended L.is_refused NeverStops) self.node.view (starts_of self.taps.items sinks) turns h)
             (λ fault. (all : Bool) × HostFails (calls_of NeverFalls X.receives X.sends X.pauses) (kinds_of L.appended L.is_refused NeverStops) all self.node.view (starts_of self.taps.items sinks) turns fault h)) }
         ensures lanes { IfOk result (λ h. IfOk h.end (λ _. AreEndsOfLanes self.node.view.feeds self.taps.items → AreEndsOfLanes h.feeds.items (map (λ w. w.tap) h.worked.items))) }
+        ensures words { IfOk result (λ h. ChosenByWords pcg64 self.node.view.journal self.node.words h.history.journal) }
         ensures begins { IfOk result (λ h. h.history.begins ≡ self.node.begins) }
         ensures memory { IfErr result (λ fault. fault ≡ Script Memory) }
     {
@@ -236,6 +239,7 @@ impl<R: time::Clock + Copy + Drop, X: Wire + Drop, P: Past<Entry> + Drop> Statio
         ensures lanes { IfOk result (λ r. IfOk r.hosted.end (λ _. AreEndsOfLanes self.node.view.feeds self.taps.items → AreEndsOfLanes r.hosted.feeds.items (map (λ w. w.tap) r.hosted.worked.items))) }
         ensures well { IfOk result (λ r. IfOk r.hosted.end (λ _. SameWell self.node.view.well r.ends.well)) }
         ensures pens { IfOk result (λ r. PensDrew r.drew_all (pens_with self.pens.items (map (λ bodies. bodies.items) dealt.items)) r.pens.items) }
+        ensures words { IfOk result (λ r. ChosenByWords pcg64 self.node.view.journal self.node.words r.hosted.history.journal) }
         ensures begins { IfOk result (λ r. r.hosted.history.begins ≡ self.node.begins) }
         ensures memory { IfErr result (λ fault. fault ≡ Script Memory) }
     {
@@ -265,6 +269,7 @@ impl<R: time::Clock + Copy + Drop, X: Wire + Drop, P: Past<Entry> + Drop> Statio
         ensures lanes { IfOk result (λ r. IfOk r.hosted.end (λ _. AreEndsOfLanes self.node.view.feeds self.taps.items → AreEndsOfLanes r.hosted.feeds.items (map (λ w. w.tap) r.hosted.worked.items))) }
         ensures well { IfOk result (λ r. IfOk r.hosted.end (λ _. SameWell self.node.view.well r.ends.well)) }
         ensures pens { IfOk result (λ r. PensDrew r.drew_all (pens_with self.pens.items (map (λ bodies. bodies.items) dealt.items)) r.pens.items) }
+        ensures words { IfOk result (λ r. ChosenByWords pcg64 self.node.view.journal self.node.words r.hosted.history.journal) }
         ensures begins { IfOk result (λ r. r.hosted.history.begins ≡ self.node.begins) }
         ensures memory { IfErr result (λ fault. fault ≡ Script Memory) }
     {
@@ -426,6 +431,7 @@ where
     ensures lanes { IfSome result (λ r. IfOk r.0.end (λ _. AreEndsOfLanes node.view.feeds taps.items → AreEndsOfLanes r.0.feeds.items (map (λ w. w.tap) r.0.worked.items))) }
     ensures well { IfSome result (λ r. IfOk r.0.end (λ _. SameWell node.view.well r.1.well)) }
     ensures control { IfSome result (λ r. IfOk r.0.end (λ _. SameLines node.view.control r.1.commands)) }
+    ensures words { IfSome result (λ r. ChosenByWords pcg64 node.view.journal node.words r.0.history.journal) }
     ensures begins { IfSome result (λ r. r.0.history.begins ≡ node.begins) }
 {
     if !started {

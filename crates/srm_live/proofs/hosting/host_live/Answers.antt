@@ -47,5 +47,5 @@ returns-in-Some g c = λ none complete.
     typed_is in
     let (file, stored) = c.settle.ensures.recorded none in
     let none_stopped = sym c.any_stopped-stopped.ensures ∙ both.1 in
-    live_run t.all (calls_of NeverFalls g.X.Wire.receives g.X.Wire.sends g.X.Wire.pauses) (kinds_of (λ l. l.items) _ g.S.PageSink.sees) c.args.turns c.args.station.node.view c.args.station.taps.items pens c.args.pages c.args.sinks.items c.in-Some.ends c.in-Some.hosted _ _ known t.first t.others.items t.control g.F.Write.contents c.args.station.node.begins file
-    all (rw c.as_slice.ensures.value at none_stopped) c.requires.new c.requires.control (sym c.args.sinks.ok.0 ∙ c.requires.sinks) c.in-Some.ensures.hosts c.in-Some.ensures.control refl (c.settle.ensures.fault none) (c.settle.ensures.takes none) typed first others answers (subst (λ b. IsRecorded g.F.Write.contents b c.in-Some.hosted.history.journal.entries (lists_of c.in-Some.hosted.worked.items) file) c.in-Some.ensures.begins stored)
+    live_run t.all (calls_of NeverFalls g.X.Wire.receives g.X.Wire.sends g.X.Wire.pauses) (kinds_of (λ l. l.items) _ g.S.PageSink.sees) c.args.turns c.args.station.node.view c.args.station.taps.items pens c.args.pages c.args.sinks.items c.in-Some.ends c.in-Some.hosted _ _ known t.first t.others.items t.control g.F.Write.contents c.args.station.node.words c.args.station.node.begins file
+    all (rw c.as_slice.ensures.value at none_stopped) c.requires.new c.requires.control (sym c.args.sinks.ok.0 ∙ c.requires.sinks) c.in-Some.ensures.hosts c.in-Some.ensures.control refl (c.settle.ensures.fault none) (c.settle.ensures.takes none) typed first others answers (subst (λ b. IsRecorded g.F.Write.contents b c.in-Some.hosted.history.journal.entries (lists_of c.in-Some.hosted.worked.items) file) c.in-Some.ensures.begins stored) c.in-Some.ensures.words

@@ -14,4 +14,4 @@ run_bound-requires-send-S g c κs within =
 
 pub returns-in-Ok-bind : goal.returns-in-Ok-bind
 returns-in-Ok-bind g c = λ whole.
-    lives_with g.R.File.Write.contents g.R.File.Read.remaining c.args.options (g.I.Read.remaining c.args.reader) c.args.sinks.items c.in-Ok-read_key.key c.in-Ok-seal_by.seal c.in-Ok-bind.station.node.view c.in-Ok-bind.station.taps.items c.in-Ok-bind.station.pens.items c.in-Ok-open_record.record _ c.in-Ok-read_key.ensures.asked c.in-Ok-read_key.ensures.whole (subst (λ me. IsSealBy c.in-Ok-read_key.key me c.in-Ok-seal_by.seal) c.me.ensures c.in-Ok-seal_by.ensures) c.in-Ok-bind.ensures.new c.in-Ok-open_record.ensures c.in-Ok-bind.ensures.begins (c.run_bound.ensures whole)
+    lives_with g.R.File.Write.contents g.R.File.Read.remaining c.args.options (g.I.Read.remaining c.args.reader) c.args.sinks.items c.in-Ok-read_key.key c.in-Ok-seal_by.seal c.in-Ok-bind.station.node.view c.in-Ok-bind.station.taps.items c.in-Ok-bind.station.pens.items c.in-Ok-open_record.record c.in-Ok-bind.station.node.words _ c.in-Ok-read_key.ensures.asked c.in-Ok-read_key.ensures.whole (subst (λ me. IsSealBy c.in-Ok-read_key.key me c.in-Ok-seal_by.seal) c.me.ensures c.in-Ok-seal_by.ensures) c.in-Ok-bind.ensures.new c.in-Ok-open_record.ensures c.in-Ok-bind.ensures.words c.in-Ok-bind.ensures.begins (c.run_bound.ensures whole)

@@ -42,8 +42,8 @@ returns-then-whole-clause-whole g c =
     let recorded : IsRecorded g.F.Write.contents c.args.station.node.begins c.in_ok-hosted.field-0.hosted.history.journal.entries (lists_of c.in_ok-hosted.field-0.hosted.worked.items) c.in_ok-whole.field-0.file =
     recorded_as g.F.Write.contents c.in_ok-hosted.field-0.hosted.history.begins c.args.station.node.begins c.in_ok-hosted.field-0.hosted.history.journal.entries c.in_ok-hosted.field-0.hosted.history.journal.entries _ _ c.in_ok-whole.field-0.file c.in_ok-hosted.ensures.begins refl (ap lists_of c.as_slice.ensures.value) (c.in_ok-whole.ensures c.if-whole.true) in
     let run = recorded_run (calls_of NeverFalls g.X.Wire.receives g.X.Wire.sends g.X.Wire.pauses) (kinds_of (λ l. l.items) _ NeverStops) c.args.turns c.args.station.node.view c.args.station.taps.items c.args.station.pens.items c.in_ok-hosted.field-0.pens.items sinks _ c.in_ok-hosted.field-0.ends c.in_ok-hosted.field-0.hosted
-    _ _ c.me-me.result g.F.Write.contents c.args.station.node.begins c.in_ok-whole.field-0.file c.requires count host drew c.settle_lanes.ensures (subst (λ ws. list_all has_close ws ≡ true) c.as_slice-2.ensures.value (lists_closed _ _ _ c.of_whole_run.ensures c.in-None.is)) received.1 (c.me-me.ensures ∙ ap (λ s. s.config.me) c.start.ensures) printed recorded in
-    (_, run.0, run.1, run.2)
+    _ _ c.me-me.result g.F.Write.contents c.args.station.node.words c.args.station.node.begins c.in_ok-whole.field-0.file c.requires count host drew c.settle_lanes.ensures (subst (λ ws. list_all has_close ws ≡ true) c.as_slice-2.ensures.value (lists_closed _ _ _ c.of_whole_run.ensures c.in-None.is)) received.1 (c.me-me.ensures ∙ ap (λ s. s.config.me) c.start.ensures) printed recorded c.in_ok-hosted.ensures.words in
+    (_, run.0, run.1, run.2, run.3)
 
 -- the same of a run whose record isn't whole
 pub returns-clause-nothing : goal.returns-clause-nothing
