@@ -10,7 +10,7 @@ import { Spans } from "./drawing/spans.mjs";
 import { Claims } from "./drawing/claims.mjs";
 import { MOST_POINTS, Page } from "./drawing/page.mjs";
 import { Past } from "./drawing/past.mjs";
-import { boundsOf, boxOf, linesOf, offsetOf, pointsOf } from "./drawing/places.mjs";
+import { asGiven, boundsOf, boxOf, linesOf, offsetOf, pointsOf, stepped, stepsTo } from "./drawing/places.mjs";
 import { DYES, colourOf, nightly, noteLines, paint } from "./drawing/painting.mjs";
 import { thinned } from "./drawing/curves.mjs";
 import { isHit } from "./drawing/hits.mjs";
@@ -246,6 +246,40 @@ test("a file of a board opens as the same picture, of one source", () => {
   }
   assert.equal(fileIn("nothing"), null);
   assert.equal(fileIn("ringyew board 1\npage A\nwb2 back a\n<b>\n").odd, 2);
+});
+
+test("the steps to a box bring a shape there, or as near as the page lets it, however far beyond the page its sums are", () => {
+  for (let seed = 1; seed <= 2000; seed++) {
+    const random = generator(seed + 80000), sum = () => [random.between(-4000, 4000), random.between(-4000, 4000)];
+    const shape = { kind: "rect", width: 12, points: [point(random), point(random)], sized: sum(), moved: sum() };
+    const sides = [0, 1].map(i => Math.abs(shape.points[0][i] - shape.points[1][i])), corner = [random.between(-5000, 5000), random.between(-5000, 5000)], size = [random.between(-9, 5000), random.between(-9, 3000)];
+    const box = boundsOf(stepped(shape, stepsTo(shape, [...corner, corner[0] + size[0], corner[1] + size[1]])));
+    for (const [i, most] of [WIDE, HIGH].entries()) {
+      const side = sides[i] && Math.max(1, Math.min(most, size[i])), at = Math.max(0, Math.min(most - side, corner[i]));
+      assert.equal(box[i + 2] - box[i], side, `seed ${seed}`);
+      if (at === 0 || at === most - side) assert.equal(box[i], at, `seed ${seed}`); else assert.ok(Math.abs(box[i] - at) <= .5, `seed ${seed}: ${box[i]}, ${at}`);
+    }
+  }
+});
+
+test("steps that are given while others are on their way add up to the last box, whatever has come back when", () => {
+  for (let seed = 1; seed <= 300; seed++) {
+    const random = generator(seed + 85000), page = pageOf([0, "wb2 rect a 1 - 12 - 600,500 1400,1000"], [1, page => spread("wb2 move z 3000,0", [{ source: 0, first: 1, last: 1, check: page.checkAt(0, 1) }])[0]]);
+    const shape = page.shapes()[0], onWay = [];
+    let wanted = [WIDE - 800, 500, WIDE, 1000], look = null;
+    const answer = () => { page.draw(0, page.source(0).taken + 1, onWay.shift()); if (!onWay.length) look = null; };
+    for (let step = 0; step < 40; step++) {
+      const given = asGiven(shape, look), [x, y, right, low] = boundsOf(given), [dx, dy, wider, higher] = [random.between(-400, 600), random.between(-300, 300), random.one([0, 0, 2, 50, -40]), random.one([0, 0, 30, -50])];
+      assert.deepEqual([x, y, right, low], wanted, `seed ${seed}, step ${step}`);
+      const steps = stepsTo(given, [x + dx, y + dy, right + dx + wider, low + dy + higher]), span = { source: 0, first: 1, last: 1, check: page.checkAt(0, 1) };
+      look = stepped(given, steps);
+      wanted = boundsOf(look);
+      for (const [kind, by] of [["size", steps.sized], ["move", steps.moved]]) onWay.push(...spread(`wb2 ${kind} s${step} ${by}`, [span]));
+      for (let count = random.below(onWay.length + 1); count > 0; count--) answer();
+    }
+    while (onWay.length) answer();
+    assert.deepEqual(boundsOf(page.shapes()[0]), wanted, `seed ${seed}`);
+  }
 });
 
 test("a text breaks between words, and a word that is too long within", () => {

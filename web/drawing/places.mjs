@@ -1,5 +1,5 @@
-// Where a shape lies: its lines of text, its boxes, and how far it was sized and moved. Boxes are [left, top, right, bottom].
-import { WIDE, HIGH } from "./strokes.mjs";
+// Where a shape lies: its lines of text, its boxes, how far it was sized and moved, and the steps that bring it elsewhere. Boxes are [left, top, right, bottom].
+import { FARTHEST, WIDE, HIGH } from "./strokes.mjs";
 
 export const LINE = 1.25, BASELINE = .97;       // how far apart the lines of a text are, and how far below its upper edge it stands, in its sizes
 // How wide a line of text is: the window measures it by its font.
@@ -66,6 +66,29 @@ export const offsetOf = shape => liesAt(shape).offset;
 export const pointsOf = shape => liesAt(shape).points;
 // The box around the points where they lie.
 export const boundsOf = shape => { const { bounds, offset } = liesAt(shape); return shifted(bounds, offset); };
+
+// A shape as it lies once the last look that it was given has come back. Steps that were reckoned from what has come back would each mend the same overshoot.
+export function asGiven(shape, look) {
+  if (!look) return shape;
+  const { sized, moved, width, breadth } = look;
+  return { ...shape, lies: null, lines: null, sized, moved, width, breadth };
+}
+const within = (number, most) => Math.max(-most, Math.min(most, number));
+// The steps of size and place that bring the box around a shape's points into another one, or as near as the page lets it. A shape's sums may lie beyond the page.
+export function stepsTo(shape, to) {
+  const now = boundsOf(shape), drawn = shape.bounds, sized = [0, 0], moved = [0, 0];
+  for (const [i, most] of [WIDE, HIGH].entries()) {
+    const old = drawn[i + 2] - drawn[i], before = now[i + 2] - now[i], side = shape.kind === "text" || !old ? before : Math.max(1, Math.min(most, Math.round(to[i + 2] - to[i])));
+    const far = most - side, at = Math.max(0, Math.min(far, to[i])), isSized = side !== before, unmoved = drawn[i] - (side - old) / 2;
+    // Steps are whole: at an edge they end behind it, so that no half of a unit stays free.
+    const whole = at === 0 ? Math.floor : at === far ? Math.ceil : Math.round;
+    if (isSized) sized[i] = within(side - old - shape.sized[i], FARTHEST);
+    if (isSized || Math.abs(at - now[i]) >= .5) moved[i] = within(whole(at - unmoved) - shape.moved[i], FARTHEST);
+  }
+  return { sized, moved };
+}
+const summed = (sums, by) => sums.map((sum, i) => sum + by[i]);
+export const stepped = (shape, { sized, moved }) => ({ ...shape, lies: null, lines: null, sized: summed(shape.sized, sized), moved: summed(shape.moved, moved) });
 
 export const NOTE = { wide: 480, high: 112, rows: 10, size: 46, signs: 19 };
 export const notePlace = note => [16 + (note.source % 8) * 496, HIGH - 8 - (note.place % NOTE.rows + 1) * (NOTE.high + 8)];

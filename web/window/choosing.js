@@ -49,46 +49,52 @@ function endChoice() {
   refresh();
 }
 
+// Of each shape here that is on its way to another place, how it looks once that has come back.
+function givenLooks() {
+  const looks = new Map();
+  for (const stroke of pending) if (stroke.lookOf && stroke.page === here && !stroke.isBack) for (const [shape, look] of stroke.lookOf) looks.set(shape, look);
+  return looks;
+}
+// Shapes as they lie once all has come back that this tab gave them.
+function givenShapes(shapes) {
+  const looks = givenLooks();
+  return shapes.map(shape => asGiven(shape, looks.get(shape)));
+}
+// Carries out what came back of this member, and reads edited texts again: it is on its way no more, and counts only then.
+function runOwn() { const p = page(); if (p) { p.run(me); p.shapes(); } }
 // What changes where shapes lie, as one step: each shape with the box around its points as it is to be. Shapes whose steps are equal share drawops.
-const within = (number, most) => Math.max(-most, Math.min(most, number));
 function placeShapes(shapes, boxFor, extra = () => []) {
+  runOwn();
   const p = page(), all = shapes.filter(shape => shape.kind !== "note" && !shape.isHidden), notes = shapes.length - all.length;
   if (notes) toast("Notes stay where they are");
   if (!p || !all.length || isOver) return;
-  const id = newStep(), groups = new Map(), looks = [], note = (kind, by, shape) => { if (!by[0] && !by[1]) return; const key = `${VERSION} ${kind} ${id} ${by}`; if (!groups.has(key)) groups.set(key, []); groups.get(key).push(shape); };
-  for (const shape of all) {
-    const steps = stepsTo(shape, boxFor(shape));
-    note("size", steps.sized, shape); note("move", steps.moved, shape);
-    looks.push({ ...shape, lies: null, lines: null, sized: shape.sized.map((by, i) => by + steps.sized[i]), moved: shape.moved.map((by, i) => by + steps.moved[i]) });
+  const id = newStep(), groups = new Map(), lookOf = new Map(), note = (kind, by, shape) => { if (!by[0] && !by[1]) return; const key = `${VERSION} ${kind} ${id} ${by}`; if (!groups.has(key)) groups.set(key, []); groups.get(key).push(shape); };
+  for (const [i, given] of givenShapes(all).entries()) {
+    const steps = stepsTo(given, boxFor(given));
+    note("size", steps.sized, all[i]); note("move", steps.moved, all[i]);
+    lookOf.set(all[i], stepped(given, steps));
   }
-  const edits = extra(id, looks), bodies = [...[...groups].flatMap(([head, those]) => spread(head, spansFor(p, those))), ...edits];
-  if (bodies.length) give({ kind: "place", id, shapes: all, looks }, here, bodies);
-}
-// The steps of size and place that bring a shape's points into a box, from where they were drawn: its sums may lie beyond what is shown.
-function stepsTo(shape, to) {
-  const drawn = shape.bounds || boxAround(shape.points), now = liesAt(shape), sized = [0, 0], moved = [0, 0];
-  for (const i of [0, 1]) {
-    const old = drawn[i + 2] - drawn[i], before = now.bounds[i + 2] - now.bounds[i], side = shape.kind === "text" || !old ? before : Math.max(1, Math.round(to[i + 2] - to[i]));
-    if (side !== before) sized[i] = within(side - old - shape.sized[i], FARTHEST);
-    moved[i] = within(Math.round(to[i] - (drawn[i] - (side - old) / 2)) - shape.moved[i], FARTHEST);
-  }
-  return { sized, moved };
+  const edits = extra(id, lookOf), bodies = [...[...groups].flatMap(([head, those]) => spread(head, spansFor(p, those))), ...edits];
+  if (bodies.length) give({ kind: "place", id, shapes: all, looks: [...lookOf.values()], lookOf }, here, bodies);
 }
 function moveShapes(shapes, by) { placeShapes(shapes, shape => shifted(boundsOf(shape), by)); }
 // Brings shapes from one box into another. A text gets other letters, or breaks elsewhere.
 function sizeShapes(shapes, from, to) {
   const rate = [0, 1].map(i => (to[i + 2] - to[i]) / Math.max(1, from[i + 2] - from[i])), place = (at, i) => to[i] + (at - from[i]) * rate[i];
   const boxFor = shape => boundsOf(shape).map((at, i) => place(at, i % 2));
-  placeShapes(shapes, boxFor, (id, looks) => looks.filter(look => look.kind === "text").map(look => {
-    const shape = shapes.find(one => one.source === look.source && one.number === look.number), size = rate[1] === 1 ? 1 : Math.max(...rate.filter(by => by !== 1), 0) || 1;
-    const width = Math.max(20, Math.min(400, Math.round(shape.width * size))), breadth = shape.breadth || rate[0] !== 1 && rate[1] === 1 ? Math.max(NARROWEST, Math.min(WIDE, Math.round((shape.breadth || boxOf(shape)[2] - boxOf(shape)[0]) * rate[0]))) : 0;
-    Object.assign(look, { width, breadth, lines: null });
+  placeShapes(shapes, boxFor, (id, lookOf) => [...lookOf].filter(([shape]) => shape.kind === "text").map(([shape, look]) => {
+    const size = rate[1] === 1 ? 1 : Math.max(...rate.filter(by => by !== 1), 0) || 1, [left, , right] = boxOf(look);
+    const width = Math.max(20, Math.min(400, Math.round(look.width * size))), breadth = look.breadth || rate[0] !== 1 && rate[1] === 1 ? Math.max(NARROWEST, Math.min(WIDE, Math.round((look.breadth || right - left) * rate[0]))) : 0;
+    Object.assign(look, { width, breadth, lines: null, lies: null });
     return bodyOf(editOf(shape, id, { width, breadth }));
   }));
 }
 function sizeBy(steps) {
-  const all = alive(), box = chosenBox();
-  if (box) sizeShapes(all, box, [box[0], box[1], Math.max(box[0] + 10, box[2] + steps[0]), Math.max(box[1] + 10, box[3] + steps[1])]);
+  runOwn();
+  const all = alive();
+  if (!all.length) return;
+  const box = givenShapes(all).map(boxOf).reduce(joined);
+  sizeShapes(all, box, [box[0], box[1], Math.max(box[0] + 10, box[2] + steps[0]), Math.max(box[1] + 10, box[3] + steps[1])]);
 }
 // A drawop that says how a text is from now on.
 function editOf(shape, id, change) {

@@ -6,8 +6,8 @@ function paintOver(p) {
   if (!overStale && key === overKey && shaping && shaping.kind === "pen" && overUpTo > 0) { overUpTo = paintEnd(shaping); return; }
   if (!overStale && key === overKey && !shaping && !(stopped.length && !calm.matches)) return;
   overStale = false; overKey = key; overUpTo = 0;
-  const c = begun(over);
-  for (const stroke of pending) if (stroke.page === here && !stroke.isBack) paintPending(c, stroke);
+  const c = begun(over), given = givenLooks();
+  for (const stroke of pending) if (stroke.page === here && !stroke.isBack) paintPending(c, stroke, given);
   if (shaping && shaping.page === here) { paint(c, shaping); overUpTo = shaping.points.length; }
   for (const member of stopped) paintStop(c, p.source(member).newest);
   if (wiping.size) for (const shape of wiping) paintFaded(c, shape);
@@ -20,15 +20,17 @@ function paintEnd(stroke) {
   if (stroke.points.length > overUpTo) paint(c, stroke, Math.max(1, overUpTo - 1));
   return stroke.points.length;
 }
-function paintPending(c, stroke) {
+function paintPending(c, stroke, given) {
   const age = Date.now() - stroke.sentAt;
   if (age < LATE && !lateTimer) lateTimer = setTimeout(() => { lateTimer = 0; refresh(); }, LATE - age + 20);
   c.globalAlpha = age < LATE ? 1 : .4;
   if (stroke.kind === "drop") stroke.shapes.forEach(shape => paintFaded(c, shape));
-  else if (stroke.kind === "place") paintPlaced(c, stroke.shapes, stroke.looks);
+  else if (stroke.kind === "place") paintPlaced(c, stroke.shapes, stroke.lookOf ? newestLooks(stroke.lookOf, given) : stroke.looks);
   else if (stroke.points && stroke.kind !== "more") paint(c, stroke);
   c.globalAlpha = 1;
 }
+// A shape that was given several looks is shown as the last one has it.
+const newestLooks = (lookOf, given) => [...lookOf].filter(([shape, look]) => given.get(shape) === look).map(([, look]) => look);
 function paintFaded(c, shape) {
   if (shape.isHidden || !shape.points && shape.kind !== "note") return;
   const alpha = c.globalAlpha;

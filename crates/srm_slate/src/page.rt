@@ -8,7 +8,7 @@ use std::alloc::AllocError;
 
 /// What the page may do: run what it brings along, and ask this server. Nothing else of the network is loaded, and no other page may frame it.
 pub const POLICY: &str =
-    "default-src 'none'; script-src 'sha256-C6z06lFca7JxAuuUGwyyUnokH0TLmwgPKjSvpSCJgAk='; style-src 'sha256-9sHKMZsOPnXi1AK+WOWPLKz8U20IZv3eLszPMndEAE0='; img-src data: blob:; connect-src 'self'; base-uri 'none'; form-action 'none'; frame-ancestors 'none'";
+    "default-src 'none'; script-src 'sha256-QjvRCzvBGDgLW7YwV/kXCNhgSzUvwAxs3B1Zt+HRkrM='; style-src 'sha256-9sHKMZsOPnXi1AK+WOWPLKz8U20IZv3eLszPMndEAE0='; img-src data: blob:; connect-src 'self'; base-uri 'none'; form-action 'none'; frame-ancestors 'none'";
 
 /// Appends the page, a text that a browser shows. If out of memory, some of the body may be gone.
 pub fn put_page(body: &mut Rope) -> Result<(), AllocError>
@@ -460,7 +460,7 @@ class Claims {
   counts(height) { return height <= this.bound; }
 }
 
-// Where a shape lies: its lines of text, its boxes, and how far it was sized and moved. Boxes are [left, top, right, bottom].
+// Where a shape lies: its lines of text, its boxes, how far it was sized and moved, and the steps that bring it elsewhere. Boxes are [left, top, right, bottom].
 
 const LINE = 1.25, BASELINE = .97;       // how far apart the lines of a text are, and how far below its upper edge it stands, in its sizes
 // How wide a line of text is: the window measures it by its font.
@@ -528,6 +528,29 @@ const pointsOf = shape => liesAt(shape).points;
 // The box around the points where they lie.
 const boundsOf = shape => { const { bounds, offset } = liesAt(shape); return shifted(bounds, offset); };
 
+// A shape as it lies once the last look that it was given has come back. Steps that were reckoned from what has come back would each mend the same overshoot.
+function asGiven(shape, look) {
+  if (!look) return shape;
+  const { sized, moved, width, breadth } = look;
+  return { ...shape, lies: null, lines: null, sized, moved, width, breadth };
+}
+const within = (number, most) => Math.max(-most, Math.min(most, number));
+// The steps of size and place that bring the box around a shape's points into another one, or as near as the page lets it. A shape's sums may lie beyond the page.
+function stepsTo(shape, to) {
+  const now = boundsOf(shape), drawn = shape.bounds, sized = [0, 0], moved = [0, 0];
+  for (const [i, most] of [WIDE, HIGH].entries()) {
+    const old = drawn[i + 2] - drawn[i], before = now[i + 2] - now[i], side = shape.kind === "text" || !old ? before : Math.max(1, Math.min(most, Math.round(to[i + 2] - to[i])));
+    const far = most - side, at = Math.max(0, Math.min(far, to[i])), isSized = side !== before, unmoved = drawn[i] - (side - old) / 2;
+    // Steps are whole: at an edge they end behind it, so that no half of a unit stays free.
+    const whole = at === 0 ? Math.floor : at === far ? Math.ceil : Math.round;
+    if (isSized) sized[i] = within(side - old - shape.sized[i], FARTHEST);
+    if (isSized || Math.abs(at - now[i]) >= .5) moved[i] = within(whole(at - unmoved) - shape.moved[i], FARTHEST);
+  }
+  return { sized, moved };
+}
+const summed = (sums, by) => sums.map((sum, i) => sum + by[i]);
+const stepped = (shape, { sized, moved }) => ({ ...shape, lies: null, lines: null, sized: summed(shape.sized, sized), moved: summed(shape.moved, moved) });
+
 const NOTE = { wide: 480, high: 112, rows: 10, size: 46, signs: 19 };
 const notePlace = note => [16 + (note.source % 8) * 496, HIGH - 8 - (note.place % NOTE.rows + 1) * (NOTE.high + 8)];
 const noteBox = note => { const [x, y] = notePlace(note); return grown([x, y, x + NOTE.wide, y + NOTE.high], 2); };
@@ -535,7 +558,9 @@ function textBox(shape) {
   const lines = linesOf(shape), [x, y] = shape.points[0];
   return [x, y, x + Math.max(1, ...lines.map(line => measure(line, shape.width))), y + lines.length * shape.width * LINE];
 }
+"##;
 
+const PART_2: &str = r##"
 // The two ends of an arrow's head.
 const headOf = width => 26 + 3 * width;
 function headEnds([[ax, ay], [bx, by]], width) {
@@ -567,9 +592,7 @@ function pack(shape) {
   const points = shape.points, steps = new Int16Array(2 * points.length - 2);
   let most = 0;
   for (let i = 1; i < points.length; i++) for (const j of [0, 1]) { const step = points[i][j] - points[i - 1][j]; steps[2 * i - 2 + j] = step; most = Math.max(most, Math.abs(step)); }
-  shape.packed = { first: points[0], steps: most < 128 ? Int8Array.from(steps) : steps };"##;
-
-const PART_2: &str = r##"
+  shape.packed = { first: points[0], steps: most < 128 ? Int8Array.from(steps) : steps };
   shape.points = shape.bounds = shape.lies = null;
 }
 function unpack(shape) {
@@ -1215,7 +1238,9 @@ const viewNow = () => `${scale} ${corner} ${ratio} ${base.width}`;
 function wake() { if (!isAwaited) { isAwaited = true; requestAnimationFrame(frame); } }
 // What lies over the page changed.
 function refresh() { overStale = true; wake(); }
+"##;
 
+const PART_3: &str = r##"
 function onPaper(c) { c.setTransform(scale * ratio, 0, 0, scale * ratio, corner[0] * ratio, corner[1] * ratio); }
 function begun(canvas) {
   const c = canvas.getContext("2d");
@@ -1251,9 +1276,7 @@ function paintBase(p) {
 // The last whole picture, moved to where the view is now.
 function moveOld() {
   if (kept.isWhole) { [keep, old] = [old, keep]; oldView = { page: kept.page, scale: kept.scale, corner: kept.corner }; kept.isWhole = false; }
-  const c = base.getContext("2d"), by = scale / oldView.scale;"##;
-
-const PART_3: &str = r##"
+  const c = base.getContext("2d"), by = scale / oldView.scale;
   c.setTransform(1, 0, 0, 1, 0, 0); c.clearRect(0, 0, base.width, base.height);
   if (oldView.page === kept.page) c.drawImage(old, (corner[0] - oldView.corner[0] * by) * ratio, (corner[1] - oldView.corner[1] * by) * ratio, old.width * by, old.height * by);
 }
@@ -1408,8 +1431,8 @@ function paintOver(p) {
   if (!overStale && key === overKey && shaping && shaping.kind === "pen" && overUpTo > 0) { overUpTo = paintEnd(shaping); return; }
   if (!overStale && key === overKey && !shaping && !(stopped.length && !calm.matches)) return;
   overStale = false; overKey = key; overUpTo = 0;
-  const c = begun(over);
-  for (const stroke of pending) if (stroke.page === here && !stroke.isBack) paintPending(c, stroke);
+  const c = begun(over), given = givenLooks();
+  for (const stroke of pending) if (stroke.page === here && !stroke.isBack) paintPending(c, stroke, given);
   if (shaping && shaping.page === here) { paint(c, shaping); overUpTo = shaping.points.length; }
   for (const member of stopped) paintStop(c, p.source(member).newest);
   if (wiping.size) for (const shape of wiping) paintFaded(c, shape);
@@ -1422,15 +1445,17 @@ function paintEnd(stroke) {
   if (stroke.points.length > overUpTo) paint(c, stroke, Math.max(1, overUpTo - 1));
   return stroke.points.length;
 }
-function paintPending(c, stroke) {
+function paintPending(c, stroke, given) {
   const age = Date.now() - stroke.sentAt;
   if (age < LATE && !lateTimer) lateTimer = setTimeout(() => { lateTimer = 0; refresh(); }, LATE - age + 20);
   c.globalAlpha = age < LATE ? 1 : .4;
   if (stroke.kind === "drop") stroke.shapes.forEach(shape => paintFaded(c, shape));
-  else if (stroke.kind === "place") paintPlaced(c, stroke.shapes, stroke.looks);
+  else if (stroke.kind === "place") paintPlaced(c, stroke.shapes, stroke.lookOf ? newestLooks(stroke.lookOf, given) : stroke.looks);
   else if (stroke.points && stroke.kind !== "more") paint(c, stroke);
   c.globalAlpha = 1;
 }
+// A shape that was given several looks is shown as the last one has it.
+const newestLooks = (lookOf, given) => [...lookOf].filter(([shape, look]) => given.get(shape) === look).map(([, look]) => look);
 function paintFaded(c, shape) {
   if (shape.isHidden || !shape.points && shape.kind !== "note") return;
   const alpha = c.globalAlpha;
@@ -1852,7 +1877,9 @@ async function explain() {
   try {
     const answer = await fetch(`told?from=${from}&seen=${happened}`, { headers: MARK, cache: "no-store", signal: AbortSignal.timeout(PATIENCE) });
     if (answer.status === 404) veil("The member was started anew, and its page has another address: its terminal names it");
-  } catch (e) {
+  } catch (e) {"##;
+
+const PART_4: &str = r##"
     // A member that was told to leave may be gone before it says so to this window: then nothing listens there any more.
     if (isLeaving && e instanceof TypeError) end();
   }
@@ -1886,9 +1913,7 @@ function reset() {
 }
 // The session has ended for this member.
 function end() {
-  if (isOver) return;"##;
-
-const PART_4: &str = r##"
+  if (isOver) return;
   isOver = true; veil("You have left the session. The drawing stays here until you close it."); showTools(); refresh();
   if (last) showPanels(); else showState();
 }
@@ -2333,46 +2358,52 @@ function endChoice() {
   refresh();
 }
 
+// Of each shape here that is on its way to another place, how it looks once that has come back.
+function givenLooks() {
+  const looks = new Map();
+  for (const stroke of pending) if (stroke.lookOf && stroke.page === here && !stroke.isBack) for (const [shape, look] of stroke.lookOf) looks.set(shape, look);
+  return looks;
+}
+// Shapes as they lie once all has come back that this tab gave them.
+function givenShapes(shapes) {
+  const looks = givenLooks();
+  return shapes.map(shape => asGiven(shape, looks.get(shape)));
+}
+// Carries out what came back of this member, and reads edited texts again: it is on its way no more, and counts only then.
+function runOwn() { const p = page(); if (p) { p.run(me); p.shapes(); } }
 // What changes where shapes lie, as one step: each shape with the box around its points as it is to be. Shapes whose steps are equal share drawops.
-const within = (number, most) => Math.max(-most, Math.min(most, number));
 function placeShapes(shapes, boxFor, extra = () => []) {
+  runOwn();
   const p = page(), all = shapes.filter(shape => shape.kind !== "note" && !shape.isHidden), notes = shapes.length - all.length;
   if (notes) toast("Notes stay where they are");
   if (!p || !all.length || isOver) return;
-  const id = newStep(), groups = new Map(), looks = [], note = (kind, by, shape) => { if (!by[0] && !by[1]) return; const key = `${VERSION} ${kind} ${id} ${by}`; if (!groups.has(key)) groups.set(key, []); groups.get(key).push(shape); };
-  for (const shape of all) {
-    const steps = stepsTo(shape, boxFor(shape));
-    note("size", steps.sized, shape); note("move", steps.moved, shape);
-    looks.push({ ...shape, lies: null, lines: null, sized: shape.sized.map((by, i) => by + steps.sized[i]), moved: shape.moved.map((by, i) => by + steps.moved[i]) });
+  const id = newStep(), groups = new Map(), lookOf = new Map(), note = (kind, by, shape) => { if (!by[0] && !by[1]) return; const key = `${VERSION} ${kind} ${id} ${by}`; if (!groups.has(key)) groups.set(key, []); groups.get(key).push(shape); };
+  for (const [i, given] of givenShapes(all).entries()) {
+    const steps = stepsTo(given, boxFor(given));
+    note("size", steps.sized, all[i]); note("move", steps.moved, all[i]);
+    lookOf.set(all[i], stepped(given, steps));
   }
-  const edits = extra(id, looks), bodies = [...[...groups].flatMap(([head, those]) => spread(head, spansFor(p, those))), ...edits];
-  if (bodies.length) give({ kind: "place", id, shapes: all, looks }, here, bodies);
-}
-// The steps of size and place that bring a shape's points into a box, from where they were drawn: its sums may lie beyond what is shown.
-function stepsTo(shape, to) {
-  const drawn = shape.bounds || boxAround(shape.points), now = liesAt(shape), sized = [0, 0], moved = [0, 0];
-  for (const i of [0, 1]) {
-    const old = drawn[i + 2] - drawn[i], before = now.bounds[i + 2] - now.bounds[i], side = shape.kind === "text" || !old ? before : Math.max(1, Math.round(to[i + 2] - to[i]));
-    if (side !== before) sized[i] = within(side - old - shape.sized[i], FARTHEST);
-    moved[i] = within(Math.round(to[i] - (drawn[i] - (side - old) / 2)) - shape.moved[i], FARTHEST);
-  }
-  return { sized, moved };
+  const edits = extra(id, lookOf), bodies = [...[...groups].flatMap(([head, those]) => spread(head, spansFor(p, those))), ...edits];
+  if (bodies.length) give({ kind: "place", id, shapes: all, looks: [...lookOf.values()], lookOf }, here, bodies);
 }
 function moveShapes(shapes, by) { placeShapes(shapes, shape => shifted(boundsOf(shape), by)); }
 // Brings shapes from one box into another. A text gets other letters, or breaks elsewhere.
 function sizeShapes(shapes, from, to) {
   const rate = [0, 1].map(i => (to[i + 2] - to[i]) / Math.max(1, from[i + 2] - from[i])), place = (at, i) => to[i] + (at - from[i]) * rate[i];
   const boxFor = shape => boundsOf(shape).map((at, i) => place(at, i % 2));
-  placeShapes(shapes, boxFor, (id, looks) => looks.filter(look => look.kind === "text").map(look => {
-    const shape = shapes.find(one => one.source === look.source && one.number === look.number), size = rate[1] === 1 ? 1 : Math.max(...rate.filter(by => by !== 1), 0) || 1;
-    const width = Math.max(20, Math.min(400, Math.round(shape.width * size))), breadth = shape.breadth || rate[0] !== 1 && rate[1] === 1 ? Math.max(NARROWEST, Math.min(WIDE, Math.round((shape.breadth || boxOf(shape)[2] - boxOf(shape)[0]) * rate[0]))) : 0;
-    Object.assign(look, { width, breadth, lines: null });
+  placeShapes(shapes, boxFor, (id, lookOf) => [...lookOf].filter(([shape]) => shape.kind === "text").map(([shape, look]) => {
+    const size = rate[1] === 1 ? 1 : Math.max(...rate.filter(by => by !== 1), 0) || 1, [left, , right] = boxOf(look);
+    const width = Math.max(20, Math.min(400, Math.round(look.width * size))), breadth = look.breadth || rate[0] !== 1 && rate[1] === 1 ? Math.max(NARROWEST, Math.min(WIDE, Math.round((look.breadth || right - left) * rate[0]))) : 0;
+    Object.assign(look, { width, breadth, lines: null, lies: null });
     return bodyOf(editOf(shape, id, { width, breadth }));
   }));
 }
 function sizeBy(steps) {
-  const all = alive(), box = chosenBox();
-  if (box) sizeShapes(all, box, [box[0], box[1], Math.max(box[0] + 10, box[2] + steps[0]), Math.max(box[1] + 10, box[3] + steps[1])]);
+  runOwn();
+  const all = alive();
+  if (!all.length) return;
+  const box = givenShapes(all).map(boxOf).reduce(joined);
+  sizeShapes(all, box, [box[0], box[1], Math.max(box[0] + 10, box[2] + steps[0]), Math.max(box[1] + 10, box[3] + steps[1])]);
 }
 // A drawop that says how a text is from now on.
 function editOf(shape, id, change) {
@@ -2535,7 +2566,9 @@ function placeWords() {
   $("long").textContent = [more ? `${more} bytes more than one drawop holds: the rest goes into another text below` : "", low > 0 ? "runs off the paper: a shorter text, or smaller letters" : ""].filter(part => part).join("; ");
   Object.assign($("long").style, { left: x + "px", top: y - 26 + "px" });
 }
-function beginWords(point) {
+function beginWords(point) {"##;
+
+const PART_5: &str = r##"
   const x = Math.max(0, Math.min(WIDE - 500, point[0])), y = Math.max(0, Math.min(HIGH - SIZES[width], point[1] - Math.round(SIZES[width] * .6)));
   writing = { ...stroke("text", [x, y]), breadth: Math.min(COLUMN, WIDE - 30 - x), of: null };
   words.value = ""; refresh(); placeWords(); words.focus();
@@ -2568,9 +2601,7 @@ function editText(done, text) {
   if (shape.isHidden) { if (text) writeText({ ...stroke("text", boundsOf(shape).slice(0, 2).map(Math.round)), ...saidBy(shape) }, text); return; }
   const [head, ...rest] = pieces(text), id = newStep();
   if (!head) { erase([shape]); return; }
-  const look = { ...shape, text: head, lines: null, lies: null }, box = boxOf(look);"##;
-
-const PART_5: &str = r##"
+  const look = { ...shape, text: head, lines: null, lies: null }, box = boxOf(look);
   const below = columnOf({ ...saidBy(shape), kind: "text", id, source: me, points: [[Math.round(box[0]), Math.min(HIGH, Math.round(box[3]))]] }, rest).map((one, i) => ({ ...one, height: Math.min(GREATEST_HEIGHT, nextHeight() + i) }));
   give({ kind: "place", id, shapes: [shape], looks: [look, ...below] }, here, [bodyOf(editOf(shape, id, { text: head })), ...below.map(bodyOf)]);
 }

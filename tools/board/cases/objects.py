@@ -12,6 +12,13 @@ def ends(line):
     return line.split()[-1]
 
 
+def hold_right(d, count):
+    """So many keys to the right at once, and then all that they drew comes back."""
+    d.execute_script("""const key = {key: 'ArrowRight', shiftKey: true, bubbles: true, cancelable: true};
+        for (let i = 0; i < arguments[0]; i++) document.getElementById('paper').dispatchEvent(new KeyboardEvent('keydown', key));""", count)
+    until(lambda: d.execute_script('return pending.size') == 0, 'the keys came back')
+
+
 def test_select_move_size_copy(srm, shot):
     """A drag moves, a grip sizes, the keys do both; what two move at once adds up; copies go to another page."""
     s = Session(srm, 2, loss=0.2)
@@ -56,6 +63,11 @@ def test_select_move_size_copy(srm, shot):
         until(lambda: all(box(d, 0)[2] == 4000 for d in all_), 'it stays on the page')
         far(Keys.ARROW_LEFT)
         until(lambda: all(box(d, 0)[2] == 3750 for d in all_), 'and comes back at once')
+        hold_right(a, 12)
+        hold_right(a, 8)
+        until(lambda: all(box(d, 0)[2] == 4000 for d in all_), 'keys that come faster than the member answers leave it at the edge')
+        far(Keys.ARROW_LEFT)
+        until(lambda: all(box(d, 0)[2] == 3750 for d in all_), 'and from there it comes back at once too')
         # Copies, cut and paste, onto another page.
         chord(a, 'a')
         chord(a, 'd')
