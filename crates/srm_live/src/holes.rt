@@ -132,8 +132,8 @@ impl PageHoles {
     }
 }
 
-// Whether a member knows of strokes on a page.
-fn has_strokes<W: Words + Drop>(agent: &Agent<W>, page: &Page, members: u8) -> bool {
+/// Returns whether a member knows of a stroke on a page, of any of so many members.
+pub fn has_strokes<W: Words + Drop>(agent: &Agent<W>, page: &Page, members: u8) -> bool {
     for number in 0..members {
         if let Some(source) = Member::new(number) {
             let stream = Stream {

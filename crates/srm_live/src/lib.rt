@@ -59,6 +59,7 @@ mod watched;
 mod who;
 
 pub use claims::Claims;
+pub use holes::has_strokes;
 pub use hosting::unrecorded;
 pub use laws::a_sink_prints_what_it_sees;
 pub use lingering::{Stay, Staying};
