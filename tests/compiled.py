@@ -8,7 +8,7 @@ import tempfile
 from pathlib import Path
 
 sys.path.insert(0, str(Path(__file__).resolve().parent))
-from units import TOP, UNIT, all_names, is_inside, is_program, lay_out_crates, read_lines, write_first, write_program, write_tests
+from units import TOP, UNIT, all_names, is_inside, is_program, lay_out_crates, naming_full_disk, read_lines, write_first, write_program, write_tests
 
 sys.path.append(str(TOP / "tools"))
 import checked
@@ -46,7 +46,8 @@ def laid_out(names, folder):
 def words_of(names, may_compile=True):
     """The words that run a program, or these tests. With no leave to compile, nothing where they aren't kept."""
     with tempfile.TemporaryDirectory(prefix="unit-") as folder:
-        crate = laid_out(names, Path(folder))
+        with naming_full_disk(folder):
+            crate = laid_out(names, Path(folder))
         return crate.ready() if may_compile else crate.words()
 
 

@@ -4,7 +4,7 @@ import subprocess
 import tempfile
 from pathlib import Path
 
-from units import UNIT
+from units import UNIT, naming_full_disk
 
 
 def laid_out_otherwise(folder):
@@ -22,7 +22,7 @@ def laid_out_otherwise(folder):
 
 def compare(is_written):
     """How many files there are, and what is wrong with each that isn't in the layout; or lays these out and says which."""
-    with tempfile.TemporaryDirectory(prefix="layout-") as folder:
+    with tempfile.TemporaryDirectory(prefix="layout-") as folder, naming_full_disk(folder):
         others, refused = laid_out_otherwise(Path(folder))
     for path, text in others.items() if is_written else ():
         (UNIT / path).write_text(text)

@@ -10,7 +10,7 @@ import units
 def prove(names):
     """Proves the tests of these names, those of each as a crate. How many aren't."""
     lacking = 0
-    with tempfile.TemporaryDirectory(prefix="prove-") as place:
+    with tempfile.TemporaryDirectory(prefix="prove-") as place, units.naming_full_disk(place):
         folder = Path(place)
         units.lay_out_crates(folder, ("src", "specs", "proofs"))
         for name in names:

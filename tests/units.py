@@ -1,5 +1,7 @@
 """The tests that are code, and the program that plays the cases: tests/unit/NAME has each as a crate's src, with the suffix .rattle, since rt reads no .rt file outside
 crates/. A line of tests/unit/uses.txt says what a crate of them uses, as crates.txt does. Here they are laid out as crates of a repository in another folder."""
+import contextlib
+import errno
 import re
 import shutil
 from pathlib import Path
@@ -74,11 +76,30 @@ def names_inside():
     return [it for it in read_lines(TOP / "crates.txt") if any("#[test]" in text for text in sources(TOP / "crates" / it / "src", ".rt").values())]
 
 
+@contextlib.contextmanager
+def naming_full_disk(folder):
+    """Names a folder whose disk is full, and what to do: an error of a file that is written or copied doesn't say where."""
+    try:
+        yield
+    except OSError as error:
+        if error.errno not in (errno.ENOSPC, errno.EDQUOT):
+            raise
+        raise OSError(error.errno, f"can't be written ({error.strerror}; free 1 GB there)", str(folder)) from error
+
+
+def copy_files(part, folder):
+    """Copies the files below a folder of this repository into another one. Unlike copytree's, its error says what failed."""
+    for file in (it for it in (TOP / part).rglob("*") if it.is_file()):
+        copy = folder / file.relative_to(TOP)
+        copy.parent.mkdir(parents=True, exist_ok=True)
+        shutil.copyfile(file, copy)
+
+
 def lay_out_crates(folder, parts=("src", "specs")):
     """Makes a repository in a folder with this one's crates, these parts of each."""
     for crate in read_lines(TOP / "crates.txt"):
-        for part in (f"crates/{crate}/{it}" for it in parts if (TOP / "crates" / crate / it).is_dir()):
-            shutil.copytree(TOP / part, folder / part)
+        for part in parts:
+            copy_files(f"crates/{crate}/{part}", folder)
     for name in ("HANDLES", "crates.txt"):
         shutil.copy(TOP / name, folder)
 
