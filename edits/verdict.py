@@ -10,7 +10,7 @@ from edit import PARTS, TOP, Fault, changes_of
 FILE = TOP / "edits/verdicts"
 MOST_WATCHED = 100
 HEAD = """\
-# The verdicts on the edits of edits/, which edits/try --write writes. A line: whether the gate watches the edit, the edit, the sum of the texts that the
+# The verdicts on the edits of edits/, which edits/try --write writes. A line: whether the edit is watched, the edit, the sum of the texts that the
 # verdict stands on (the crate's src/, specs/ and proofs/, and the edit's own), the day, and what refused it. A line of a watched edit may have - for these three.
 """
 KINDS = {"watched": True, "other": False}
