@@ -1,2 +1,3 @@
 pub mod BoardRuns
+pub mod Served
 pub mod Showing

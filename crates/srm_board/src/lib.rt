@@ -18,6 +18,7 @@ mod board_desk;
 mod board_fault;
 mod boarding;
 mod first_missing;
+mod host_names;
 mod hosting;
 mod inkwell;
 mod leaving;
@@ -31,3 +32,4 @@ mod watching;
 
 pub use board_fault::BoardFault;
 pub use boarding::run_board;
+pub use place::Place;

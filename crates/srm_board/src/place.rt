@@ -1,22 +1,22 @@
 //! Where a board is served.
 
 ghost use Rattle.std.specs.Prelude.{◌≡◌, ◌↔◌, ◌++◌, true, false, codes, string_bytes, IfOk, IsTrue};
-ghost use Rattle.srm_board.specs.Places.{IsAnywhere, IsTokenRoot};
+ghost use Rattle.srm_board.specs.Places.{IsAnywhere, IsServedAt, IsTokenRoot, hosts_of};
 
+use crate::host_names::host_names;
 use srm_slate::{Guard, TokenSource, new_token};
 use std::alloc::{AllocError, Global};
 use std::io;
 use std::net::SocketAddr;
 
-/// Where a board is served, and whether a token stands in the address of its page.
+/// Where a board is served, and who may ask there.
 #[derive(Clone, Copy, Debug, PartialEq, Eq)]
 pub struct Place {
+    /// The address; with port 0 the system chooses a port.
     pub http: SocketAddr,
+    /// Whether the address of its page has a token.
     pub has_token: bool,
 }
-
-/// The port that a browser leaves out.
-const USUAL_PORT: u16 = 80;
 
 impl Place {
     /// What the paths of its server begin with: `/`, or with a new token of this source `/TOKEN/`.
@@ -31,12 +31,26 @@ impl Place {
         }
     }
 
-    /// Who may ask there. A server at every address of the machine answers to any name: then the token alone says who may ask.
+    /// Returns the place of a server that was bound here and has this port: where port 0 was asked for, the system chose it.
+    pub fn with_port(&self, port: u16) -> Place
+        ensures http { IsServedAt self.now.http result.http }
+        ensures token { result.has_token ≡ self.now.has_token }
+    {
+        let mut place = *self;
+        if self.http.port() == 0 {
+            place.http.set_port(port);
+        }
+        place
+    }
+
+    /// Returns who may ask there: who names its address, or `localhost` where that is a loopback address. A server at every address of the machine answers to any name: then the token
+    /// alone says who may ask.
     pub fn guard(&self, alloc: Global, root: String) -> Result<Guard, AllocError>
+        ensures hosts { IfOk result (λ g. g.hosts ≡ hosts_of self.now.http) }
         ensures anywhere { IfOk result (λ g. IsTrue g.is_anywhere ↔ IsAnywhere self.now.http) }
         ensures root { IfOk result (λ g. g.root ≡ string_bytes root) }
     {
-        let hosts = self.hosts(alloc)?;
+        let hosts = host_names(alloc, &self.http)?;
         Ok(Guard::new(hosts, self.is_anywhere(), root))
     }
 
@@ -45,22 +59,6 @@ impl Place {
         ensures { IsTrue result ↔ IsAnywhere self.now.http }
     {
         self.http.ip().is_unspecified()
-    }
-
-    // The names that browsers may ask for: the address, and on this machine its usual name too.
-    fn hosts(&self, alloc: Global) -> Result<Vec<String>, AllocError> {
-        let http = self.http;
-        let mut hosts = Vec::new(alloc);
-        hosts.push(format!(in alloc; "{http}")?)?;
-        if http.ip().is_loopback() {
-            let port = http.port();
-            hosts.push(format!(in alloc; "localhost:{port}")?)?;
-        }
-        if http.port() == USUAL_PORT {
-            hosts.push(format!(in alloc; "{}", http.ip())?)?;
-            hosts.push(String::from_str(alloc, "localhost")?)?;
-        }
-        Ok(hosts)
     }
 }
 

@@ -1,8 +1,8 @@
 //! What a board needs before its member does anything.
 
-ghost use Rattle.std.specs.Prelude.{◌≡◌, ◌↔◌, true, vec_len, IfOk, IsTrue};
+ghost use Rattle.std.specs.Prelude.{◌≡◌, ◌↔◌, true, false, codes, vec_len, IfOk, IsTrue};
 ghost use Rattle.srm_names.specs.declared.limits.TheConstants.{PAGES};
-ghost use Rattle.srm_board.specs.Places.{IsAnywhere, IsTokenRoot};
+ghost use Rattle.srm_board.specs.Places.{IsAnywhere, IsServed, IsTokenRoot, hosts_of};
 
 use crate::place::Place;
 use crate::serving::Endpoint;
@@ -14,8 +14,7 @@ use srm_options::Names;
 use srm_slate::{Face, Slate, TokenSource};
 use std::alloc::{AllocError, Global};
 use std::io;
-use std::net::{Net, TcpListener, TcpStream};
-use std::random::RandomSource;
+use std::net::{Net, SocketAddr, TcpListener, TcpStream};
 use std::sync::{Arc, Wait};
 
 /// What a board needs before its member does anything.
@@ -52,26 +51,53 @@ pub fn prepare<R>(
     config: Config,
 ) -> io::Result<Prepared<R>>
 where
-    R: Net<Listener = TcpListener, Stream = TcpStream> + RandomSource + Wait + Copy + Drop,
-    ensures { IfOk result (λ p. vec_len p.sinks ≡ PAGES) }
+    R: Net<Listener = TcpListener, Stream = TcpStream> + TokenSource + Wait + Copy + Drop,
+    ensures sinks { IfOk result (λ p. vec_len p.sinks ≡ PAGES) }
+    ensures served { IfOk result (λ p. IsServed place.http p.endpoint.face.guard) }
+    ensures token { place.has_token ≡ true → IfOk result (λ p. IsTokenRoot (R.gives rt.now) p.endpoint.face.guard.root) }
+    ensures bare { place.has_token ≡ false → IfOk result (λ p. p.endpoint.face.guard.root ≡ codes "/") }
 {
-    let listener = TcpListener::bind(rt, place.http)?;
-    // A thread that waits for connections looks whether the run has ended.
-    listener.set_nonblocking(true)?;
-    // Where port 0 was asked for, the system chose one.
-    let http = listener.local_addr()?;
-    let (face, address) = face_of(rt, alloc, Place { http, ..place }, names, config)?;
-    let endpoint = Endpoint {
-        listener,
-        face,
-        address,
-    };
+    let listener = listen(rt, place.http)?;
+    let endpoint = endpoint_of(rt, alloc, listener, place, names, config)?;
     let shared = share(alloc)?;
     let sinks = slate_sinks(rt, alloc, &shared.slate)?;
     Ok(Prepared {
         endpoint,
         shared,
         sinks,
+    })
+}
+
+// Binds an address. A thread that waits for connections looks whether the run has ended.
+fn listen<R>(rt: &R, http: SocketAddr) -> io::Result<TcpListener>
+where
+    R: Net<Listener = TcpListener, Stream = TcpStream>,
+{
+    let listener = TcpListener::bind(rt, http)?;
+    listener.set_nonblocking(true)?;
+    Ok(listener)
+}
+
+// What is served by a listener that was bound at a place.
+#[tactic(auto, using(crate::proofs::Served::is_served))]
+fn endpoint_of<S: TokenSource>(
+    source: &S,
+    alloc: Global,
+    listener: TcpListener,
+    asked: Place,
+    names: &Names,
+    config: Config,
+) -> io::Result<Endpoint>
+    ensures served { IfOk result (λ e. IsServed asked.http e.face.guard) }
+    ensures token { asked.has_token ≡ true → IfOk result (λ e. IsTokenRoot (S.gives source.now) e.face.guard.root) }
+    ensures bare { asked.has_token ≡ false → IfOk result (λ e. e.face.guard.root ≡ codes "/") }
+{
+    let port = listener.local_addr()?.port();
+    let (face, address) = face_of(source, alloc, asked.with_port(port), names, config)?;
+    Ok(Endpoint {
+        listener,
+        face,
+        address,
     })
 }
 
@@ -92,7 +118,9 @@ fn face_of<S: TokenSource>(
     names: &Names,
     config: Config,
 ) -> io::Result<(Face, String)>
-    ensures root { place.has_token ≡ true → IfOk result (λ r. IsTokenRoot (S.gives source.now) r.0.guard.root) }
+    ensures token { place.has_token ≡ true → IfOk result (λ r. IsTokenRoot (S.gives source.now) r.0.guard.root) }
+    ensures bare { place.has_token ≡ false → IfOk result (λ r. r.0.guard.root ≡ codes "/") }
+    ensures hosts { IfOk result (λ r. r.0.guard.hosts ≡ hosts_of place.http) }
     ensures anywhere { IfOk result (λ r. IsTrue r.0.guard.is_anywhere ↔ IsAnywhere place.http) }
 {
     let root = place.new_root(source, alloc)?;
