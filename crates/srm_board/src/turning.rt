@@ -1,10 +1,15 @@
 //! Which page the member shows.
 
+use srm_agent::Agent;
 use srm_control::{COMMANDS, PageCommand, PageControl};
-use srm_names::Page;
+use srm_live::has_strokes;
+use srm_names::{PAGES, Page};
 use srm_rota::PageRota;
+use srm_timers::Words;
 use std::alloc::{AllocError, Global};
 use std::sync::{Mutex, Wait};
+
+const SLOTS: usize = PAGES as usize;
 
 /// The pages that a member shows in turn, each until it has sent a session message of it, so that others learn of the last strokes of all of them. The page that
 /// was drawn on here last goes first.
@@ -17,6 +22,8 @@ pub struct Turning {
 #[derive(Drop)]
 struct Turns {
     rota: PageRota,
+    // By page slot, whether its page was added. A page keeps its slot and its strokes, so it isn't asked for again.
+    was_added: [bool; SLOTS],
     control: Option<PageControl>,
 }
 
@@ -28,6 +35,7 @@ impl Turning {
         Ok(Turning {
             turns: Mutex::new(Turns {
                 rota,
+                was_added: [false; SLOTS],
                 control: None,
             }),
         })
@@ -38,9 +46,10 @@ impl Turning {
         self.turns.lock(rt).control = Some(control);
     }
 
-    /// Notes that a page has strokes.
-    pub fn add<R: Wait>(&self, rt: &R, page: Page) {
-        self.turns.lock(rt).rota.add(page);
+    /// Adds those pages of a member on which it knows of strokes, of any of so many members. Asks for 256 streams at most.
+    pub fn ask<R: Wait, W: Words + Drop>(&self, rt: &R, agent: &Agent<W>, members: u8) {
+        let mut turns = self.turns.lock(rt);
+        turns.ask(agent, members);
     }
 
     /// Notes that a page was drawn on here.
@@ -56,6 +65,25 @@ impl Turning {
 }
 
 impl Turns {
+    fn ask<W: Words + Drop>(&mut self, agent: &Agent<W>, members: u8) {
+        for (slot, page) in agent.pages().iter().enumerate() {
+            if !self.has_added(slot) && has_strokes(agent, page, members) {
+                self.add(slot, page);
+            }
+        }
+    }
+
+    fn has_added(&self, slot: usize) -> bool {
+        self.was_added.get(slot).copied().unwrap_or(true)
+    }
+
+    fn add(&mut self, slot: usize, page: &Page) {
+        if let Some(was_added) = self.was_added.get_mut(slot) {
+            *was_added = true;
+        }
+        self.rota.add(*page);
+    }
+
     fn turn<R: Wait>(&mut self, rt: &R, told: Page) {
         let Some(control) = &mut self.control else {
             return;

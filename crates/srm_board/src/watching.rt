@@ -18,8 +18,8 @@ use srm_world::{Forgotten, Past};
 use std::alloc::{AllocError, Global};
 use std::sync::{Arc, Wait};
 
-/// The history of a node that keeps no entry. What each entry says of the member goes to a slate first, which pages have strokes to the turns of its pages, and what tells of a need
-/// of others to who waits for it.
+/// The history of a node that keeps no entry. What each entry says of the member goes to a slate first, and what tells of a need of others to who waits for it. Behind each turn the
+/// member is asked what it misses, and which pages have strokes.
 #[derive(Drop)]
 pub struct Watching<R: Wait + Drop> {
     past: Forgotten<Entry>,
@@ -110,7 +110,7 @@ struct Watch<R: Wait + Drop> {
     counts: WireCounts,
     // What was said of the member's own streams in this turn.
     claims: Claims,
-    // Whether an entry of this turn may have changed what the member misses.
+    // Whether an entry of this turn may have changed what the member misses, and which pages have strokes.
     is_stale: bool,
     // Whether something befell the member in this turn.
     is_news: bool,
@@ -164,10 +164,12 @@ impl<R: Wait + Drop> Watch<R> {
         self.is_stale = self.is_stale || entry.accepted().is_some();
     }
 
-    // Shows what the member answers that it misses, so many names, if that may have changed, and whether others know of strokes that it drew in an earlier run.
+    // Shows what the member answers that it misses, so many names, and turns to the pages on which it knows of strokes, if that may have changed; and shows whether others know of
+    // strokes that it drew in an earlier run.
     fn ask<W: Words + Drop>(&mut self, agent: &Agent<W>, missing: u32) {
         if self.is_stale {
             self.is_stale = false;
+            self.turning.ask(&self.rt, agent, self.members);
             let holes = first_missing(self.alloc, agent, self.members, missing);
             let mut shown = self.slate.lock(&self.rt);
             show_missing(&mut shown, agent, holes);
@@ -199,28 +201,16 @@ impl<R: Wait + Drop> Watch<R> {
         }
     }
 
-    // What an entry says of the pages that have strokes, and of the one that was told of.
+    // What an entry says of the page that was drawn on here, and of the one that was told of.
     fn turn(&self, entry: &Entry) {
         if let Some(drawop) = &entry.effects.drawn {
             self.turning.prefer(&self.rt, drawop.name.stream().page);
-        }
-        if let Some(page) = page_heard(entry) {
-            self.turning.add(&self.rt, page);
         }
         for datagram in entry.effects.outs.as_slice() {
             if let Datagram::Session { shown, .. } = datagram {
                 self.turning.told(&self.rt, *shown);
             }
         }
-    }
-}
-
-// The page of a stroke that another drew.
-fn page_heard(entry: &Entry) -> Option<Page> {
-    match (&entry.input, entry.verdict) {
-        (Input::Heard(Datagram::Data(drawop) | Datagram::Repair { drawop, .. }), Verdict::Done) =>
-            Some(drawop.name.stream().page),
-        _ => None,
     }
 }
 
