@@ -2,6 +2,8 @@
 use Rattle.std.proofs.Common.{◌≡◌, ℕ, Bool, true, List, length, map, refl, ap, sym, ◌∙◌, subst, inl, inr, arith}
 use Rattle.std.specs.Prelude.{Option, Some, None, MatchResult}
 use Rattle.std.specs.List.{list_all, list_any, zip}
+use Rattle.rand_pcg.specs.Lcg.{Lcg}
+use Rattle.rand_pcg.specs.Pcg.{pcg64}
 use Rattle.srm_names.specs.declared.limits.TheConstants.{PAGES}
 use Rattle.srm_names.specs.declared.page_msg.PageMsg.{PageMsg}
 use Rattle.srm_names.specs.PageFeeds.{is_close}
@@ -18,10 +20,14 @@ use Rattle.srm_node.specs.declared.working.Worked.{Worked}
 use Rattle.srm_node.specs.Calls.{Calls}
 use Rattle.srm_node.specs.Nodes.{NodeView, NodeState}
 use Rattle.srm_node.specs.Hosting.{Kinds, HostsWith}
+use Rattle.srm_node.specs.Waits.{ChosenByWords}
+use Rattle.srm_timers.specs.Seeds.{words_of}
 use Rattle.srm_world.specs.Traces.{Journal}
 use Rattle.srm_world.specs.RecordStarts.{RecordStart}
 use Rattle.srm_record.specs.Begun.{IsRecorded}
 use Rattle.srm_member.specs.declared.fault.MemberFault.{MemberFault}
+use Rattle.srm_member.specs.MemberRuns.{AreBySeed}
+use Rattle.srm_member.proofs.MemberRuns.{by_seed, new_journal}
 use Rattle.srm_member.specs.Stations.{BeginsIn, HasNewEnds, IsNewStation}
 use Rattle.srm_member.specs.Statuses.{IsRecordedEnd, IsToldOf, fault_of, fault_of_lists}
 use Rattle.srm_member.specs.WholeRuns.{IsWholeHost, TakePrefixes}
@@ -38,16 +44,16 @@ use Rattle.srm_board.specs.BoardRuns.{IsBoardStation, MayHaveControl}
 use Rattle.srm_board.specs.BoardStatuses.{IsWholeEnd, fault_of_end, status_of_board}
 
 -- without a fault the node ran to its end, and its workers took all that its journal gave
-pub board_run : {P L S X C F : Type 0} (calls : Calls X C) (kinds : Kinds L S) (turns : ℕ) (node : NodeView X C) (taps : List TapView) (pens : List PenView) (sinks : List S) (left : NodeEnds) (h : Hosted P L) (lacks closed : Bool) (Fails : NodeFault → Type 0) (contents : F → Option (List ℕ)) (begins : Option RecordStart) (file : Option F)
+pub board_run : {P L S X C F : Type 0} (calls : Calls X C) (kinds : Kinds L S) (turns : ℕ) (node : NodeView X C) (taps : List TapView) (pens : List PenView) (sinks : List S) (left : NodeEnds) (h : Hosted P L) (lacks closed : Bool) (Fails : NodeFault → Type 0) (contents : F → Option (List ℕ)) (words : Lcg) (begins : Option RecordStart) (file : Option F)
     → HasNewEnds node taps pens → length sinks ≡ PAGES → MatchResult h.end (λ _. HostsWith calls kinds node (zip taps sinks) turns left h) Fails
     → closed ≡ list_all (λ (w : Worked L). list_any is_close (kinds.entries w.list)) h.worked.items → fault_of_lists (fault_of h.end lacks) closed ≡ None → TakePrefixes h.feeds.items (map (λ (w : Worked L). w.tap) h.worked.items)
-    → IsRecorded contents begins h.history.journal.entries (map (λ (w : Worked L). kinds.entries w.list) h.worked.items) file
-    → (took : List (List PageMsg)) × (whole : IsWholeHost calls turns node took) × (last_file : Option F) × IsRecorded contents begins whole.last.journal.entries took last_file
-board_run {P} {L} calls kinds turns node taps pens sinks left h lacks closed Fails contents begins file ends count ran closed_is none takes recorded =
+    → IsRecorded contents begins h.history.journal.entries (map (λ (w : Worked L). kinds.entries w.list) h.worked.items) file → ChosenByWords pcg64 node.journal words h.history.journal
+    → (took : List (List PageMsg)) × (whole : IsWholeHost calls turns node took) × (last_file : Option F) × IsRecorded contents begins whole.last.journal.entries took last_file × ChosenByWords pcg64 node.journal words whole.last.journal
+board_run {P} {L} calls kinds turns node taps pens sinks left h lacks closed Fails contents words begins file ends count ran closed_is none takes recorded chosen =
     let host : HostsWith calls kinds node (zip taps sinks) turns left h = hosted_whole h.end lacks _ _ (of_lists _ _ _ refl none) ran in
     let all : list_all (λ (w : Worked L). list_any is_close (kinds.entries w.list)) h.worked.items ≡ true = sym closed_is ∙ lists_closed _ _ _ refl none in
     let (whole, well_is, control_is, journal_is) = whole_host_ends calls kinds turns node taps pens sinks left h ends count host takes all in
-    (map (λ (w : Worked L). kinds.entries w.list) h.worked.items, whole, file, subst (λ (j : Journal). IsRecorded contents begins j.entries (map (λ (w : Worked L). kinds.entries w.list) h.worked.items) file) journal_is recorded)
+    (map (λ (w : Worked L). kinds.entries w.list) h.worked.items, whole, file, subst (λ (j : Journal). IsRecorded contents begins j.entries (map (λ (w : Worked L). kinds.entries w.list) h.worked.items) file) journal_is recorded, subst (ChosenByWords pcg64 node.journal words) journal_is chosen)
 
 -- what ended the run is told, and of a whole run what befell its record
 pub of_fault : (run told : Option MemberFault) (f : MemberFault) → run ≡ Some f → told ≡ Some f → IsRecordedEnd run told
@@ -70,6 +76,9 @@ gets_control {W} {X} {C} old new control is = (Some (new_commands control.out co
 pub same_begins : {W X C : Type 0} (old new : NodeState W X C) (control : ControlView) → new ≡ record old { view = record old.view { control = Some (new_commands control.out control.back) } } → new.begins ≡ old.begins
 same_begins {W} {X} {C} old new control is = ap (λ (n : NodeState W X C). n.begins) is
 
+pub same_words : {W X C : Type 0} (old new : NodeState W X C) (control : ControlView) → new ≡ record old { view = record old.view { control = Some (new_commands control.out control.back) } } → new.words ≡ old.words
+same_words {W} {X} {C} old new control is = ap (λ (n : NodeState W X C). n.words) is
+
 -- with a control its record begins as without
 pub still_begins : {F : Type 0} (contents : F → Option (List ℕ)) (file : Option F) (seed : ℕ) (first node : MemberNode) (begins now : Option RecordStart) → MayHaveControl first node → now ≡ begins → BeginsIn contents file seed first.journal.start begins → BeginsIn contents file seed node.journal.start now
 still_begins contents file seed first node begins now (control, fresh, is) same began =
@@ -88,6 +97,13 @@ pub board_station : (options : NodeOptions) (seal : Option SealView) (first node
 board_station options seal first node taps now_taps pens now_pens new controlled taps_are pens_are =
     let here : IsBoardStation options seal node taps pens = record { first = first; new = new; controlled = controlled } in
     subst (λ ts. IsBoardStation options seal node ts now_pens) (sym taps_are) (subst (IsBoardStation options seal node taps) (sym pens_are) here)
+
+-- and who did nothing yet chose no wait: all are by the random numbers of the seed
+pub board_seeded : (options : NodeOptions) (seal : Option SealView) (node : MemberNode) (taps : List TapView) (pens : List PenView) (words : Lcg) (last : Journal) → IsBoardStation options seal node taps pens → words ≡ words_of options.seed → ChosenByWords pcg64 node.journal words last → AreBySeed options.seed options.config last.entries
+board_seeded options seal node taps pens words last station seeded chosen =
+    let (control, fresh, is) = station.controlled in
+    let began = new_journal options.config 0 options.guard.most_missing None (new_rested (guarded_wire options.addresses.items options.guard seal)) station.first taps pens station.new in
+    by_seed options.seed options.config node.journal last words (ap (λ (n : MemberNode). n.journal.start.config) is ∙ began.0, ap (λ (n : MemberNode). n.journal.entries) is ∙ began.1) seeded chosen
 
 -- THE STATUS
 

@@ -9,7 +9,7 @@ use Rattle.srm_guarded.specs.Guarding.{IsSealBy, guarded_wire}
 use Rattle.srm_guarded.specs.Keying.{IsKeyRead}
 use Rattle.srm_options.specs.declared.node_options.NodeOptions.{NodeOptions}
 use Rattle.srm_node.specs.Nodes.{NodeView}
-use Rattle.srm_member.specs.MemberRuns.{IsStoredIf, member_calls}
+use Rattle.srm_member.specs.MemberRuns.{AreBySeed, IsStoredIf, member_calls}
 use Rattle.srm_member.specs.Stations.{IsNewStation}
 use Rattle.srm_member.specs.WholeRuns.{IsWholeHost}
 use Rattle.srm_live.specs.LiveMembers.{MemberNode}
@@ -24,7 +24,7 @@ pub record IsBoardStation (options : NodeOptions) (seal : Option SealView) (node
   pub new : IsNewStation options.config 0 options.guard.most_missing None (new_rested (guarded_wire options.addresses.items options.guard seal)) first taps pens
   pub controlled : MayHaveControl first node
 
--- Such a node ran to its end, and its page workers took all that its journal gave. The file that was opened for its record, if one was, has all of it.
+-- Such a node ran to its end, and its page workers took all that its journal gave. Its random numbers are those of the options' seed. The file that was opened for its record, if one was, has all of it.
 pub record RunsWithFile {F : Type 0} (contents : F → Option (List ℕ)) (opened : Option F) (options : NodeOptions) (seal : Option SealView) : Type 0 where
   pub node : MemberNode
   pub taps : List TapView
@@ -32,6 +32,7 @@ pub record RunsWithFile {F : Type 0} (contents : F → Option (List ℕ)) (opene
   pub station : IsBoardStation options seal node taps pens
   pub took : List (List PageMsg)
   pub whole : IsWholeHost member_calls options.turns node took
+  pub seeded : AreBySeed options.seed options.config whole.last.journal.entries
   pub stored : IsStoredIf contents (is_some opened) options.seed node.journal.start whole.last.journal.entries took
 
 -- Such a node has a record if its options name a file for it.

@@ -1,6 +1,7 @@
 //! The station of a board's member, at the member's address.
 
 ghost use Rattle.std.specs.Prelude.{◌≡◌, [], None, IfOk};
+ghost use Rattle.srm_timers.specs.Seeds.{words_of};
 ghost use Rattle.srm_member.specs.Stations.{BeginsIn};
 ghost use Rattle.srm_board.specs.BoardRuns.{IsBoardStation, MayHaveControl};
 
@@ -47,6 +48,7 @@ where
     R: Net + Files + time::Clock + Wait + Copy + Drop,
     F: Write + Drop,
     ensures station { IfOk result (λ b. IsBoardStation options seal b.0.node.view b.0.taps.items b.0.pens.items) }
+    ensures words { IfOk result (λ b. b.0.node.words ≡ words_of options.seed) }
     ensures begins { IfOk result (λ b. BeginsIn F.contents file options.seed b.0.node.view.journal.start b.0.node.begins) }
 {
     match watch(rt, alloc, shared, options.config.members()) {
@@ -91,6 +93,7 @@ where
     F: Write + Drop,
     requires { watching.past ≡ [] }
     ensures station { IfOk result (λ b. IsBoardStation options seal b.0.node.view b.0.taps.items b.0.pens.items) }
+    ensures words { IfOk result (λ b. b.0.node.words ≡ words_of options.seed) }
     ensures begins { IfOk result (λ b. BeginsIn F.contents file options.seed b.0.node.view.journal.start b.0.node.begins) }
 {
     let mut options = options;
@@ -116,6 +119,7 @@ where
     P: Past<Entry> + Drop,
     requires { station.node.view.control ≡ None }
     ensures node { MayHaveControl station.node.view result.node.view }
+    ensures words { result.node.words ≡ station.node.words }
     ensures begins { result.node.begins ≡ station.node.begins }
     ensures taps { result.taps.items ≡ station.taps.items }
     ensures pens { result.pens.items ≡ station.pens.items }

@@ -4,7 +4,9 @@ ghost use Rattle.std.specs.Prelude.{◌≡◌, ◌≤◌, List, Option, vec_len}
 ghost use Rattle.srm_record.specs.Begun.{IsRecorded};
 ghost use Rattle.srm_names.specs.declared.limits.TheConstants.{PAGES};
 ghost use Rattle.srm_names.specs.declared.page_msg.PageMsg.{PageMsg as AMessage};
+ghost use Rattle.rand_pcg.specs.Pcg.{pcg64};
 ghost use Rattle.srm_node.specs.Calls.{calls_of};
+ghost use Rattle.srm_node.specs.Waits.{ChosenByWords};
 ghost use Rattle.srm_udp.specs.Clocks.{NeverFalls};
 ghost use Rattle.srm_member.specs.Stations.{HasNewEnds};
 ghost use Rattle.srm_member.specs.WholeRuns.{IsWholeHost};
@@ -50,7 +52,7 @@ use std::time;
 /// Returns the program's status: 0; 1 if the key file can't be used, or the record can't be made or written whole; 3 if the board can't be served at its address, the
 /// member's address can't be bound, or the socket or the clock fails, with the call that failed; 4 if memory ran out, a worker's too, or all turns were spent;
 /// [`WAS_BEFORE`](srm_live::WAS_BEFORE), 5, if all went well but the member was in the session before. All threads that it started have ended then. At status 0 and 5 the
-/// member's node ran to its end over the wire of these options, each page worker took all that its journal gave, and its record is stored if the options name a file for it.
+/// member's node ran to its end over the wire of these options, each page worker took all that its journal gave, its waits are by the random numbers of the options' seed, and its record is stored if the options name a file for it.
 #[tactic(auto, using(crate::proofs::BoardRuns::never_whole))]
 pub fn run_board<R, I, E>(rt: &R, options: BoardOptions, input: Option<I>, err: E) -> u8
 where
@@ -252,7 +254,7 @@ where
     E: Write + Send + Drop + 'static,
     requires new { HasNewEnds station.node.view station.taps.items station.pens.items }
     requires sinks { vec_len prepared.sinks ≡ PAGES }
-    ensures { IsWholeEnd result → ((took : List (List AMessage)) × (whole : IsWholeHost (calls_of NeverFalls X.receives X.sends X.pauses) turns station.node.view took) × (file : Option F) × IsRecorded F.contents station.node.begins whole.last.journal.entries took file) }
+    ensures { IsWholeEnd result → ((took : List (List AMessage)) × (whole : IsWholeHost (calls_of NeverFalls X.receives X.sends X.pauses) turns station.node.view took) × (file : Option F) × IsRecorded F.contents station.node.begins whole.last.journal.entries took file × ChosenByWords pcg64 station.node.view.journal station.node.words whole.last.journal) }
 {
     let Prepared {
         endpoint,
